@@ -5,7 +5,7 @@ use Rattle.goo_types.specs.declared.part.Part.{Part}
 use Rattle.goo_types.specs.declared.piece.Piece.{Piece}
 use Rattle.goo_spec.specs.State.{State}
 use Rattle.goo_core_judges.specs.Import.{IsArriving, AreArriving}
-use Rattle.goo_core_judges.specs.declared.arriving.Arriving.{Arriving}
+use Rattle.goo_core_moves.specs.declared.arriving.Arriving.{Arriving}
 
 arriving-push : (s : State) (rows : List Piece) (ps : List Part) (known : List Arriving) (p : Part) (a : Arriving) → AreArriving s rows ps known → IsArriving s rows p a → AreArriving s rows (ps ++ p ∷ []) (known ++ a ∷ [])
 arriving-push s rows [] [] p a are is = (is, tt)

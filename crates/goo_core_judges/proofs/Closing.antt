@@ -11,8 +11,8 @@ use Rattle.goo_spec.specs.Lots.{is_held_by}
 use Rattle.goo_spec.specs.State.{State}
 use Rattle.goo_ranges_rows.specs.Rows.{AreRowsOf}
 use Rattle.goo_core_judges.specs.CloseAccount.{entry_checks}
-use Rattle.goo_core_judges.proofs.Numbering.{any-rows}
-use Rattle.goo_core_judges.proofs.Rulings.{passed_early}
+use Rattle.goo_core_moves.proofs.Numbering.{any-rows}
+use Rattle.goo_core_moves.proofs.Rulings.{passed_early}
 
 -- the rows show whether an account holds a certificate
 pub holding : (s : State) (rows : List Piece) (account : ℕ) → AreRowsOf s.at rows → list_any (λ p. is_held_by account p.place) rows ≡ list_any (λ e. is_held_by account e.1.1) (entries s.at)

@@ -29,15 +29,15 @@ use Rattle.goo_ranges_rows.proofs.Mapping.{get-place_each-range}
 use Rattle.goo_core_rules.specs.declared.ruling.Change.{Change}
 use Rattle.goo_core_rules.specs.declared.ruling.Ruling.{Ruling}
 use Rattle.goo_core_rules.specs.declared.ruling.Ruling.TheVariants.{Refused, Passed}
-use Rattle.goo_core_judges.specs.AccountRuns.{account_runs}
-use Rattle.goo_core_judges.specs.Correct.{entry_checks, range_checks, entry_by, IsEntry, runs_in}
-use Rattle.goo_core_judges.specs.Moves.{IsChangeRuling}
-use Rattle.goo_core_judges.specs.Ruling.{IsRuling, plain_meaning}
-use Rattle.goo_core_judges.specs.Withdraw.{withdrawn}
-use Rattle.goo_core_judges.proofs.AccountRuns.{met_runs}
-use Rattle.goo_core_judges.proofs.Changing.{unturned}
-use Rattle.goo_core_judges.proofs.Rulings.{passed_early, failed_early, ruled_change}
-use Rattle.goo_core_judges.proofs.Withdrawing.{same_withdrawn}
+use Rattle.goo_core_moves.specs.AccountRuns.{account_runs, runs_in}
+use Rattle.goo_core_judges.specs.Correct.{entry_checks, range_checks, entry_by, IsEntry}
+use Rattle.goo_core_moves.specs.Moves.{IsChangeRuling}
+use Rattle.goo_core_moves.specs.Ruling.{IsRuling, plain_meaning}
+use Rattle.goo_core_moves.specs.Withdraw.{withdrawn}
+use Rattle.goo_core_moves.proofs.AccountRuns.{met_runs}
+use Rattle.goo_core_moves.proofs.Changing.{unturned}
+use Rattle.goo_core_moves.proofs.Rulings.{passed_early, failed_early, ruled_change}
+use Rattle.goo_core_moves.proofs.Withdrawing.{same_withdrawn}
 
 -- the second of two checks that name a number fails
 pub second_fails : (f g : ℕ → Refusal) (a b : Option ℕ) (n : ℕ) (rest : List (Option Refusal)) → a ≡ None → b ≡ Some n → first_refusal (naming f a ∷ naming g b ∷ rest) ≡ Some (g n)

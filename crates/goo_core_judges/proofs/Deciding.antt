@@ -15,7 +15,7 @@ use Rattle.goo_ranges_rows.specs.Rows.{AreRowsOf}
 use Rattle.goo_core_shelf.specs.declared.plan.Plan.{Plan}
 use Rattle.goo_core_rules.specs.Decision.{plan_of, IsDecisionBy}
 use Rattle.goo_core_judges.specs.Decision.{IsPlanOf, IsDecision, IsRulingWithoutEdits}
-use Rattle.goo_core_judges.specs.Ruling.{Meaning, IsPassed, IsRuling, plain_meaning, meaning_of}
+use Rattle.goo_core_moves.specs.Ruling.{Meaning, IsPassed, IsRuling, plain_meaning, meaning_of}
 use Rattle.goo_core_judges.specs.Verdict.{verdict_of}
 use Rattle.goo_core_rules.specs.declared.decision.Decision.{Decision}
 use Rattle.goo_core_rules.specs.declared.ruling.Change.{Change}
@@ -23,7 +23,7 @@ use Rattle.goo_core_rules.specs.declared.ruling.Ruling.{Ruling}
 use Rattle.goo_core_rules.specs.declared.ruling.Ruling.TheVariants.{Refused, Repeated, Passed}
 use Rattle.goo_core_judges.specs.declared.verdict.Verdict.{Verdict}
 use Rattle.goo_core_judges.specs.declared.verdict.Verdict.TheVariants.{Fails, Passes}
-use Rattle.goo_core_judges.proofs.Changing.{unturned}
+use Rattle.goo_core_moves.proofs.Changing.{unturned}
 use Rattle.goo_core_judges.proofs.KnownLots.{known_lots}
 
 -- a command that leaves the rows as they are

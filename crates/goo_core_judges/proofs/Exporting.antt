@@ -1,11 +1,9 @@
 -- What an export comes to.
 use Rattle.std.proofs.Common.{◌≡◌, ◌∙◌, inl, inr, ℕ, ◌+◌, ◌≤◌, List, [], ◌∷◌, ◌++◌, Option, Some, None, refl, ap, sym, subst, arith}
-use Rattle.std.specs.Prelude.{not}
 use Rattle.std.specs.FinMap.{get}
-use Rattle.goo_types.specs.Day.{CalendarDay}
 use Rattle.goo_types.specs.Notice.{NoticeContents, IsNotice}
 use Rattle.goo_types.specs.Piece.{Label, at_of}
-use Rattle.goo_types.specs.Range.{Numbers, IsRange}
+use Rattle.goo_types.specs.Range.{IsRange}
 use Rattle.goo_types.specs.declared.command.Export.{Export}
 use Rattle.goo_types.specs.declared.part.Part.{Part}
 use Rattle.goo_types.specs.declared.piece.Piece.{Piece}
@@ -13,9 +11,8 @@ use Rattle.goo_types.specs.declared.place.Place.TheVariants as place
 use Rattle.goo_types.specs.declared.refusal.Refusal.{Refusal}
 use Rattle.goo_types.specs.declared.reply.Reply.TheVariants as reply
 use Rattle.goo_spec.specs.Checks.{first_refusal}
-use Rattle.goo_spec.specs.Days.{is_closed}
 use Rattle.goo_spec.specs.Export.{parts_of, export_refusal, export_reply, with_export, notice_of}
-use Rattle.goo_spec.specs.Lots.{Certificates, is_held_by, lot_in}
+use Rattle.goo_spec.specs.Lots.{lot_in}
 use Rattle.goo_spec.specs.Maps.{each, least_absent, count_of}
 use Rattle.goo_spec.specs.Parts.{AreInRow, HaveLots, ArePartsOf}
 use Rattle.goo_spec.specs.Sound.{IsSound}
@@ -24,20 +21,15 @@ use Rattle.goo_spec.proofs.Checking.{none_fail, unfound}
 use Rattle.goo_spec.proofs.Noticing.{notice_is_whole}
 use Rattle.goo_spec.proofs.Parting.{parts_are, one_list_of_parts, row_ends}
 use Rattle.goo_ranges_rows.specs.Rows.{AreRowsOf, meeting}
-use Rattle.goo_ranges_rows.proofs.Framing.{absent-alike, failing-alike, meeting-at}
+use Rattle.goo_ranges_rows.proofs.Framing.{meeting-at}
 use Rattle.goo_core_judges.specs.Export.{entry_checks, sending_checks, notice_with, IsUnsendable, IsHeldBack, IsExportRuling, export_meaning}
-use Rattle.goo_core_judges.specs.Moves.{IsMove}
-use Rattle.goo_core_judges.specs.Ruling.{IsRuling}
+use Rattle.goo_core_moves.specs.Moves.{IsMove}
+use Rattle.goo_core_moves.specs.Ruling.{IsRuling}
 use Rattle.goo_core_rules.specs.Trade.{trade_checks}
 use Rattle.goo_core_rules.specs.declared.ruling.Ruling.{Ruling}
 use Rattle.goo_core_rules.specs.declared.ruling.Ruling.TheVariants.{Refused, Repeated, Passed}
-use Rattle.goo_core_judges.proofs.Rulings.{passed_early, failed_early, ruled_move}
-
--- the checks over the range find the same on the met rows as in the state
-pub trade-alike : (at : Certificates) (rows : List Piece) (range : Numbers) (giver : ℕ) (today : CalendarDay) → AreRowsOf at rows
-    → first_refusal (trade_checks (get at) range giver today) ≡ first_refusal (trade_checks (at_of (meeting range rows)) range giver today)
-trade-alike at rows range giver today kept =
-    rw (← absent-alike at rows range kept, ← failing-alike (λ lot place. is_held_by giver place) at rows range kept, ← failing-alike (λ lot place. not (is_closed lot today)) at rows range kept) refl
+use Rattle.goo_core_moves.proofs.Transferring.{trade-alike}
+use Rattle.goo_core_moves.proofs.Rulings.{passed_early, failed_early, ruled_move}
 
 pub entry-fails : (s : State) (caller : List ℕ) (x : Export) (r : Refusal) → first_refusal (entry_checks s caller x) ≡ Some r → export_refusal s caller x ≡ Some r
 unfolding export_refusal

@@ -37,15 +37,16 @@ use Rattle.goo_ranges_rows.proofs.Mapping.{get-give_each-range}
 use Rattle.goo_core_shelf.proofs.Plans.{stay_rising}
 use Rattle.goo_core_shelf.specs.Shelf.{arrival_of}
 use Rattle.goo_core_shelf.specs.declared.found.Arrival.TheVariants as arrival
-use Rattle.goo_core_judges.specs.Import.{least_of, unknown_in, taken_in, differing_in, numbers_checks, standing_checks, number_checks, IsArriving, AreArriving, given, fresh_meaning, import_meaning}
-use Rattle.goo_core_judges.specs.Ruling.{IsRuling}
+use Rattle.goo_core_moves.specs.Arrivals.{least_of, unknown_in, taken_in, differing_in, numbers_checks}
+use Rattle.goo_core_judges.specs.Import.{standing_checks, number_checks, IsArriving, AreArriving, given, fresh_meaning, import_meaning}
+use Rattle.goo_core_moves.specs.Ruling.{IsRuling}
 use Rattle.goo_core_rules.specs.Changes.{AreSmall, AreOfLots, IsLotOf}
 use Rattle.goo_core_rules.proofs.Lots.{lots_weaker}
 use Rattle.goo_core_judges.specs.Taking.{ranges_of, lots_of, IsLotTaken, AreMet, IsTakeRuling}
-use Rattle.goo_core_judges.specs.declared.arriving.Arriving.{Arriving}
+use Rattle.goo_core_moves.specs.declared.arriving.Arriving.{Arriving}
 use Rattle.goo_core_rules.specs.declared.ruling.Ruling.{Ruling}
 use Rattle.goo_core_rules.specs.declared.ruling.Ruling.TheVariants.{Refused, Repeated, Passed}
-use Rattle.goo_core_judges.proofs.Rulings.{passed_early}
+use Rattle.goo_core_moves.proofs.Rulings.{passed_early}
 
 pub met_all : (s : State) (rows : List Piece) (ps : List Part) (known : List Arriving) → AreArriving s rows ps known → AreMet rows known
 met_all s rows [] [] are = tt

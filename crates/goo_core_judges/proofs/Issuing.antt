@@ -21,15 +21,15 @@ use Rattle.goo_ranges.specs.Change.{set_to}
 use Rattle.goo_ranges.specs.declared.edits.Edit.{Edit}
 use Rattle.goo_ranges_rows.specs.Rows.{AreRowsOf, meeting}
 use Rattle.goo_core_rules.specs.Changes.{AreEditsFor, AreSmall}
-use Rattle.goo_core_judges.specs.Changes.{IsTurnedInTurn}
+use Rattle.goo_core_moves.specs.Changes.{IsTurnedInTurn}
 use Rattle.goo_core_judges.specs.Issue.{issue_with, terms_of, appraisal_with, appraisal_by, appraisal_of, range_in, with_issued}
 use Rattle.goo_core_judges.specs.declared.issue.Appraisal.TheVariants.{Fails, Passes}
 use Rattle.goo_core_judges.specs.declared.issue.Issue.{Issue}
 use Rattle.goo_core_judges.specs.declared.issue.Terms.{Terms}
 use Rattle.std.specs.Prelude.{Vec}
 use Rattle.std.specs.declared.alloc.Global.{Global}
-use Rattle.goo_core_judges.specs.Ruling.{IsPassed, plain_meaning}
-use Rattle.goo_core_judges.proofs.Changing.{added_turned}
+use Rattle.goo_core_moves.specs.Ruling.{IsPassed, plain_meaning}
+use Rattle.goo_core_moves.proofs.Changing.{added_turned}
 
 -- the certificates of a range one by one
 issued-each : (first count : ℕ) (lot : LotFields) (account : ℕ) (at : Certificates) → give_each (numbers_from first count) lot (Held account) at ≡ with_issued (issue_with (range_of first count) lot account) at

@@ -1,22 +1,13 @@
 pub mod Appraising
-pub mod Changing
-pub mod Rulings
-pub mod Transferring
 pub mod Joining
 pub mod Walking
-pub mod Cancelling
 pub mod Issuing
-pub mod Numbering
 pub mod Closing
 pub mod Exporting
-pub mod Expiring
 pub mod Takings
 pub mod Arrivals
 pub mod Importing
-pub mod Withdrawing
 pub mod Correcting
 pub mod KnownLots
 pub mod Deciding
-pub mod Stopping
-pub mod AccountRuns
-mod ExampleRuns
+pub mod Keeping

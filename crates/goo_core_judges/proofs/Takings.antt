@@ -28,8 +28,8 @@ use Rattle.goo_core_rules.proofs.Changing.{small-push, small-for_all, small-met}
 use Rattle.goo_core_rules.proofs.Lots.{near_lot, inserted_own, lots_weaker, lots_push}
 use Rattle.std.proofs.lemmas.List.Elements.{All-weaker, Contains-push, Contains-append_left, Contains-append_right}
 use Rattle.goo_core_judges.specs.Taking.{ranges_of, lots_of, IsLotTaken, AreMet, IsPartEdit, AreTaken}
-use Rattle.goo_core_judges.specs.declared.arriving.Arriving.{Arriving}
-use Rattle.goo_core_judges.proofs.Changing.{set-outside}
+use Rattle.goo_core_moves.specs.declared.arriving.Arriving.{Arriving}
+use Rattle.goo_core_moves.proofs.Changing.{set-outside}
 
 -- the rows near a part as the edits before left them
 pub near_is : (range : Numbers) (rows met near : List Piece) (es : List Edit) → IsRising rows → AreEditsOf rows es → met ≡ meeting range rows → near ≡ near_after range es met

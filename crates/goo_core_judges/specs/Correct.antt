@@ -12,7 +12,6 @@ use Rattle.goo_spec.specs.Energy.{certificate, remaining}
 use Rattle.goo_spec.specs.Lots.{is_held}
 use Rattle.goo_spec.specs.Maps.{each, least_absent, least_failing}
 use Rattle.goo_spec.specs.State.{State, last_act}
-use Rattle.goo_core_judges.specs.AccountRuns.{account_runs}
 
 -- those before the ones over its range
 abbrev pub entry_checks : State → List ℕ → Correct → List (Option Refusal)
@@ -43,8 +42,3 @@ entry_by carry (Some left) x =
 abbrev pub IsEntry : State → List ℕ → Correct → Result ℕ Refusal → Type 0
 IsEntry s caller x (Ok carry) = (first_refusal (entry_checks s caller x) ≡ None) × (carry ≡ (remaining s x.device - x.less) % certificate)
 IsEntry s caller x (Err refusal) = first_refusal (entry_checks s caller x) ≡ Some refusal
-
--- how many edits it takes at most: one for each run of one account that is withdrawn
-abbrev pub runs_in : (ℕ → Option Label) → Option Numbers → ℕ
-runs_in at None = 0
-runs_in at (Some range) = account_runs at range

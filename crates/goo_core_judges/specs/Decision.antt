@@ -8,7 +8,7 @@ use Rattle.goo_spec.specs.State.{State}
 use Rattle.goo_spec.specs.Step.{outcome}
 use Rattle.goo_core_shelf.specs.Plan.{Fits}
 use Rattle.goo_core_shelf.specs.declared.plan.Plan.{Plan}
-use Rattle.goo_core_judges.specs.Edits.{most_edits, edited_ranges}
+use Rattle.goo_core_moves.specs.Edits.{most_edits, edited_ranges}
 use Rattle.goo_core_rules.specs.Changes.{AreSmall}
 use Rattle.goo_core_rules.specs.declared.decision.Decision.{Decision}
 use Rattle.goo_core_rules.specs.declared.decision.Decision.TheVariants as decided

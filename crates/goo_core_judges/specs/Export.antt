@@ -16,8 +16,8 @@ use Rattle.goo_spec.specs.Maps.{count_of}
 use Rattle.goo_spec.specs.Parts.{ArePartsOf}
 use Rattle.goo_spec.specs.State.{State, last_act}
 use Rattle.goo_spec.specs.Export.{export_refusal, export_reply, with_export, notice_of}
-use Rattle.goo_core_judges.specs.Moves.{IsMove}
-use Rattle.goo_core_judges.specs.Ruling.{Meaning}
+use Rattle.goo_core_moves.specs.Moves.{IsMove}
+use Rattle.goo_core_moves.specs.Ruling.{Meaning}
 use Rattle.goo_core_rules.specs.Trade.{trade_checks}
 use Rattle.goo_core_rules.specs.declared.ruling.Ruling.{Ruling}
 use Rattle.goo_core_rules.specs.declared.ruling.Ruling.TheVariants.{Refused, Repeated, Passed}

@@ -1,10 +1,9 @@
--- What a notice brings, part by part.
-use Rattle.std.specs.Prelude.{◌≡◌, ◌==◌, ◌&&◌, ℕ, cond, List, [], ◌∷◌, ◌++◌, length, map, Option, Some, None, Result, Ok, Err}
-use Rattle.std.specs.Option.{option_or}
+-- What an import comes to, part by part of its notice.
+use Rattle.std.specs.Prelude.{◌≡◌, ◌==◌, ◌&&◌, ℕ, List, [], ◌∷◌, ◌++◌, length, map, Option, Some, None, Result, Ok, Err}
 use Rattle.std.specs.List.{list_any}
 use Rattle.std.specs.FinMap.{get}
 use Rattle.goo_types.specs.Number.{code_of}
-use Rattle.goo_types.specs.Piece.{Label, at_of}
+use Rattle.goo_types.specs.Piece.{Label}
 use Rattle.goo_types.specs.declared.command.Import.{Import}
 use Rattle.goo_types.specs.declared.part.Part.{Part}
 use Rattle.goo_types.specs.declared.piece.Piece.{Piece}
@@ -15,14 +14,13 @@ use Rattle.goo_ranges.specs.Change.{set_to}
 use Rattle.goo_ranges_rows.specs.Rows.{meeting}
 use Rattle.goo_spec.specs.Checks.{first_refusal, when, naming, account_refusal}
 use Rattle.goo_spec.specs.Days.{is_over}
-use Rattle.goo_spec.specs.Import.{least_where, differs, entry_checks, is_other_lot, import_repeats, import_refusal, import_reply, with_import}
-use Rattle.goo_spec.specs.Lots.{is_absent, fails, is_exported, same_lot, key_of}
-use Rattle.goo_spec.specs.Maps.{each, least_absent, least_failing}
+use Rattle.goo_spec.specs.Import.{least_where, differs, entry_checks, import_repeats, import_refusal, import_reply, with_import}
+use Rattle.goo_spec.specs.Lots.{is_absent, fails, is_exported, key_of}
 use Rattle.goo_spec.specs.State.{State}
 use Rattle.goo_core_shelf.specs.Meta.{meta_of}
 use Rattle.goo_core_shelf.specs.declared.own.Meta.{Meta}
-use Rattle.goo_core_judges.specs.Ruling.{Meaning}
-use Rattle.goo_core_judges.specs.declared.arriving.Arriving.{Arriving}
+use Rattle.goo_core_moves.specs.Ruling.{Meaning}
+use Rattle.goo_core_moves.specs.declared.arriving.Arriving.{Arriving}
 
 -- what its definitions say of an import
 abbrev pub import_meaning : State → List ℕ → Import → Meaning
@@ -32,30 +30,6 @@ import_meaning s caller x = record { repeated = import_repeats s caller x; refus
 abbrev pub IsEntry : State → List ℕ → Import → Result Meta Refusal → Type 0
 IsEntry s caller x (Ok meta) = (first_refusal (entry_checks s caller x) ≡ None) × (meta ≡ meta_of s)
 IsEntry s caller x (Err refusal) = first_refusal (entry_checks s caller x) ≡ Some refusal
-
--- the least number that some parts give, in their order
-abbrev pub least_of : (Arriving → Option ℕ) → List Arriving → Option ℕ
-least_of find [] = None
-least_of find (a ∷ more) = option_or (find a) (least_of find more)
-
--- the least own number of a part that isn't there
-abbrev pub unknown_in : ℕ → Arriving → Option ℕ
-unknown_in own a = cond (code_of a.part.range.first == own) (least_absent (at_of a.book) (each a.part.range)) None
-
--- the least number of a part that is there and wasn't exported
-abbrev pub taken_in : Arriving → Option ℕ
-taken_in a = least_failing (λ lot place. is_exported place) (at_of a.book) (each a.part.range)
-
--- the least number of a part that is known otherwise
-abbrev pub differing_in : Arriving → Option ℕ
-differing_in a = cond (is_other_lot a.part.lot a.known) (Some a.part.range.first) (least_failing (λ lot place. same_lot lot a.part.lot) (at_of a.book) (each a.part.range))
-
-abbrev pub numbers_checks : ℕ → List Arriving → List (Option Refusal)
-numbers_checks own arriving =
-    naming UnknownNumber (least_of (unknown_in own) arriving)
-    ∷ naming NumberTaken (least_of taken_in arriving)
-    ∷ naming LotDiffers (least_of differing_in arriving)
-    ∷ []
 
 -- those of the account that is to hold the certificates, and of their age
 abbrev pub standing_checks : State → Import → List (Option Refusal)

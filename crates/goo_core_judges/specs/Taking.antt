@@ -13,12 +13,13 @@ use Rattle.goo_ranges_rows.specs.Rows.{meeting, edited, edited_all}
 use Rattle.goo_types.specs.declared.reply.Reply.TheVariants.{Imported}
 use Rattle.goo_spec.specs.Checks.{first_refusal}
 use Rattle.goo_spec.specs.Lots.{lot_in}
-use Rattle.goo_core_judges.specs.Import.{given, numbers_checks}
+use Rattle.goo_core_moves.specs.Arrivals.{numbers_checks}
+use Rattle.goo_core_judges.specs.Import.{given}
 use Rattle.goo_core_rules.specs.Changes.{AreSmall, AreOfLots}
 use Rattle.goo_ranges.specs.Sparing.{IsSmall}
 use Rattle.goo_core_rules.specs.declared.ruling.Ruling.{Ruling}
 use Rattle.goo_core_rules.specs.declared.ruling.Ruling.TheVariants.{Refused, Repeated, Passed}
-use Rattle.goo_core_judges.specs.declared.arriving.Arriving.{Arriving}
+use Rattle.goo_core_moves.specs.declared.arriving.Arriving.{Arriving}
 
 -- the numbers of each part
 abbrev pub ranges_of : List Arriving → List Numbers

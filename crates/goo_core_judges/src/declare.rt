@@ -16,7 +16,7 @@ ghost use Rattle.goo_spec.specs.Energy.{lowered, total};
 ghost use Rattle.goo_spec.specs.Sound.{IsSound};
 ghost use Rattle.goo_ranges_rows.specs.Rows.{AreRowsOf};
 ghost use Rattle.goo_core_shelf.specs.Shelf.{Looks, IsReady};
-ghost use Rattle.goo_core_judges.specs.Ruling.{IsRuling, plain_meaning};
+ghost use Rattle.goo_core_moves.specs.Ruling.{IsRuling, plain_meaning};
 ghost use Rattle.goo_core_judges.specs.Issue.{IsStandingIf, IsStanding, appraisal_of, appraisal_with};
 ghost use Rattle.goo_core_judges.specs.Issue.{terms_of, energy_checks};
 

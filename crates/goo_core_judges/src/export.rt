@@ -9,7 +9,7 @@ ghost use Rattle.goo_ranges_rows.specs.Rows.{AreRowsOf};
 ghost use Rattle.goo_core_shelf.specs.Shelf.{Looks, IsReady};
 ghost use Rattle.goo_core_judges.specs.Export.{entry_checks, sending_checks, notice_with, IsUnsendable};
 ghost use Rattle.goo_core_judges.specs.Export.{IsExportRuling, export_meaning};
-ghost use Rattle.goo_core_judges.specs.Ruling.{IsRuling};
+ghost use Rattle.goo_core_moves.specs.Ruling.{IsRuling};
 
 use crate::parts::parts_in;
 use goo_core_reads::callers::is_holder;

@@ -13,10 +13,10 @@ ghost use Rattle.goo_core_shelf.specs.Shelf.{Looks, IsReady};
 ghost use Rattle.goo_core_judges.specs.Import.{IsEntry, IsArriving, AreArriving, standing_checks};
 ghost use Rattle.goo_core_judges.specs.Import.{fresh_meaning, import_meaning};
 ghost use Rattle.goo_core_judges.specs.Taking.{IsTakeRuling, AreMet};
-ghost use Rattle.goo_core_judges.specs.Ruling.{IsRuling};
+ghost use Rattle.goo_core_moves.specs.Ruling.{IsRuling};
 
-use crate::arriving::{Arriving, is_stale, numbers_refusal};
 use crate::taking::take_parts;
+use goo_core_moves::arriving::{Arriving, is_stale, numbers_refusal};
 use goo_core_reads::callers::is_issuer;
 use goo_core_rules::import::is_for_another_registry;
 use goo_core_rules::ruling::{Change, Ruling};

@@ -7,9 +7,9 @@ ghost use Rattle.goo_spec.specs.Declare.{range_of};
 ghost use Rattle.goo_core_judges.specs.Issue.{issue_with, range_in, with_issued};
 ghost use Rattle.goo_ranges_rows.specs.Rows.{AreRowsOf};
 ghost use Rattle.goo_core_shelf.specs.Shelf.{Looks, IsReady};
-ghost use Rattle.goo_core_judges.specs.Changes.{IsTurnedInTurn};
+ghost use Rattle.goo_core_moves.specs.Changes.{IsTurnedInTurn};
 
-use crate::edits::add_met;
+use goo_core_moves::edits::add_met;
 use goo_core_shelf::shelf::Shelf;
 use goo_ranges::{Book, Edit};
 use goo_types::account_no::AccountNo;

@@ -8,8 +8,8 @@ ghost use Rattle.goo_ranges_rows.specs.Plans.{AreEditsOf};
 ghost use Rattle.goo_ranges_rows.specs.Rows.{meeting};
 ghost use Rattle.goo_core_judges.specs.Taking.{IsStepOf, IsTaking, AreMet};
 
-use crate::arriving::Arriving;
-use crate::edits::push_edit;
+use goo_core_moves::arriving::Arriving;
+use goo_core_moves::edits::push_edit;
 use goo_ranges::{Book, Edit};
 use goo_ranges_rows::near_after;
 use goo_types::account_no::AccountNo;

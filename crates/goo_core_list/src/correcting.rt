@@ -7,10 +7,10 @@ ghost use Rattle.goo_core_list.specs.States.{state_of, Changes};
 ghost use Rattle.goo_ranges_rows.specs.Certificates.{beside};
 
 use crate::list_shelf::ListShelf;
-use crate::listed_correction::ListedCorrection;
 use crate::maps::{put, put_back};
 use crate::next_numbers::after_withdrawal;
 use crate::withdraw_record::WithdrawRecord;
+use goo_core_shelf::correct_record::CorrectRecord;
 use goo_types::act_no::ActNo;
 use goo_types::command::{Correct, Withdraw};
 use goo_types::fault::Fault;
@@ -26,7 +26,7 @@ impl ListShelf {
             (beside (state_of self.old).at (with_correction (state_of self.old) accepted.now)) }
     {
         let Some(range) = accepted.range else {
-            return self.corrections.add(ListedCorrection::of(accepted, None));
+            return self.corrections.add(CorrectRecord::of(accepted, None));
         };
         let number = ActNo::new(self.counters.withdrawal()).unwrap();
         let reason = accepted.reason;
@@ -34,7 +34,7 @@ impl ListShelf {
         let before = put(&mut self.withdrawals, number, record)?;
         if let Err(fault) = self
             .corrections
-            .add(ListedCorrection::of(accepted, Some(number)))
+            .add(CorrectRecord::of(accepted, Some(number)))
         {
             put_back(&mut self.withdrawals, number, before);
             return Err(fault);

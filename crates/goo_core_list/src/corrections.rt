@@ -6,7 +6,7 @@ ghost use Rattle.goo_spec.specs.Energy.{less_of, withdrew as withdrew_by};
 ghost use Rattle.goo_spec.specs.Energy.{lowered_by as lowered_for, begins, net};
 ghost use Rattle.goo_spec.specs.Correct.{left_of};
 
-use crate::listed_correction::ListedCorrection;
+use goo_core_shelf::correct_record::CorrectRecord;
 use goo_types::act_no::ActNo;
 use goo_types::command::Declare;
 use goo_types::day::Day;
@@ -19,7 +19,7 @@ use std::marker::Model;
 /// The accepted corrections, the oldest first.
 #[derive(Drop)]
 pub struct Corrections {
-    list: Vec<ListedCorrection>,
+    list: Vec<CorrectRecord>,
 }
 
 impl Model for Corrections {
@@ -108,7 +108,7 @@ impl Corrections {
     /// # Errors
     ///
     /// `Memory` where an allocation was refused; nothing is added then.
-    pub fn add(&mut self, correction: ListedCorrection) -> Result<(), Fault>
+    pub fn add(&mut self, correction: CorrectRecord) -> Result<(), Fault>
         ensures done { OnOk result (self.new ≡ self.old ++ correction ∷ []) }
         ensures undone { OnErr result (self.new ≡ self.old) }
         ensures memory { IfErr result (λ fault. fault ≡ Memory) }

@@ -10,10 +10,10 @@ use Rattle.goo_core_reads.specs.Reads.{may_see}
 use Rattle.goo_core_reads.specs.declared.denial.Denial.{Denial}
 use Rattle.goo_core_reads.specs.declared.denial.Denial.TheVariants as denial
 use Rattle.goo_registry.specs.Reads.{account_denial, holder_shown, IsCancellationOf, IsCancellationDenied, IsCancellationShown}
-use Rattle.goo_registry.specs.AccountReads.{IsHeadingShown}
+use Rattle.goo_registry_reads.specs.AccountReads.{IsHeadingShown}
 use Rattle.goo_registry.specs.Shown.{split_denial}
 use Rattle.goo_registry.specs.declared.cancellation_statement.CancellationStatement.{CancellationStatement}
-use Rattle.goo_registry.specs.declared.heading.Heading.{Heading}
+use Rattle.goo_registry_reads.specs.declared.heading.Heading.{Heading}
 use Rattle.goo_registry.specs.declared.read_fault.ReadFault.{ReadFault}
 use Rattle.goo_registry.specs.declared.read_fault.ReadFault.TheVariants.{NotAllowed, Unknown, Store, Memory}
 use Rattle.goo_files_documents.specs.Cancellation.{cancellation_text}

@@ -11,8 +11,8 @@ use Rattle.goo_spec.specs.State.{State}
 use Rattle.goo_core_shelf.specs.Shelf.{Moment, Looks}
 use Rattle.goo_core_reads.proofs.Naming.{some_runs}
 use Rattle.goo_registry.specs.Reads.{account_denial}
-use Rattle.goo_registry.specs.AccountReads.{IsHeadingShown}
-use Rattle.goo_registry.specs.declared.heading.Heading.{Heading}
+use Rattle.goo_registry_reads.specs.AccountReads.{IsHeadingShown}
+use Rattle.goo_registry_reads.specs.declared.heading.Heading.{Heading}
 use Rattle.goo_files.specs.Lines.{AreLines, IsRowFault}
 use Rattle.goo_files.specs.Texts.{AreRunsNaming}
 use Rattle.goo_files.specs.Writes.{Writes, Began}

@@ -21,7 +21,7 @@ use Rattle.goo_core_reads.specs.Ahead.{IsSeen}
 use Rattle.goo_core_reads.specs.declared.run_place.RunPlace.{RunPlace}
 use Rattle.goo_types.specs.declared.fault.Fault.{Fault}
 use Rattle.goo_core_reads.proofs.Naming.{some_runs}
-use Rattle.goo_registry.specs.AccountReads.{IsNextRunFound, IsRunRead}
+use Rattle.goo_registry_reads.specs.AccountReads.{IsNextRunFound, IsRunRead}
 use Rattle.goo_registry.specs.Shown.{split_denial}
 use Rattle.goo_registry.specs.declared.read_fault.ReadFault.{ReadFault}
 use Rattle.goo_registry.specs.declared.read_fault.ReadFault.TheVariants.{NotAllowed, Unknown, Store, Memory}

@@ -8,8 +8,8 @@ use Rattle.goo_types.specs.declared.piece.Piece.{Piece}
 use Rattle.goo_spec.specs.State.{State}
 use Rattle.goo_core_shelf.specs.Shelf.{Moment, Looks}
 use Rattle.goo_registry.specs.Reads.{account_denial}
-use Rattle.goo_registry.specs.AccountReads.{IsHeadingShown, IsHeadingOf}
-use Rattle.goo_registry.specs.declared.heading.Heading.{Heading}
+use Rattle.goo_registry_reads.specs.AccountReads.{IsHeadingShown, IsHeadingOf}
+use Rattle.goo_registry_reads.specs.declared.heading.Heading.{Heading}
 use Rattle.goo_files_csv.specs.Holdings.{header_row}
 use Rattle.goo_files_documents.specs.Counts.{counts_of}
 use Rattle.goo_files_documents.specs.Runs.{statement_line}

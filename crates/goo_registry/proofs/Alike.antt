@@ -20,9 +20,9 @@ use Rattle.goo_core_reads.specs.Reads.{may_see, kept_if, kept_where, names}
 use Rattle.goo_core_reads.specs.declared.denial.Denial.{Denial}
 use Rattle.goo_core_reads.specs.declared.denial.Denial.TheVariants.{NotAllowed, Unknown}
 use Rattle.goo_registry.specs.Reads.{place_shown, is_known_caller, shown_to, sent_shown, notice_shown, account_denial, holder_shown, is_cancelled_by, AreHoldings, IsCancellationDenied, IsCancellationShown}
-use Rattle.goo_registry.specs.AccountReads.{IsHeadingShown, IsNextRunShown}
+use Rattle.goo_registry_reads.specs.AccountReads.{IsHeadingShown, IsNextRunShown}
 use Rattle.goo_registry.specs.Alike.{SameRuns, SameCancellation, EqualReads}
-use Rattle.goo_registry.specs.declared.heading.Heading.{Heading}
+use Rattle.goo_registry_reads.specs.declared.heading.Heading.{Heading}
 use Rattle.goo_registry.specs.declared.cancellation_statement.CancellationStatement.{CancellationStatement}
 use Rattle.goo_registry.proofs.Keeping.{kept-both}
 

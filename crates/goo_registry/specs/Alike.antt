@@ -11,8 +11,8 @@ use Rattle.goo_spec_independent.specs.Agree.{AgreeOn}
 use Rattle.goo_core_reads.specs.Reads.{may_see}
 use Rattle.goo_core_reads.specs.declared.denial.Denial.{Denial}
 use Rattle.goo_registry.specs.Reads.{place_shown, notice_shown, AreHoldings, IsCancellationShown}
-use Rattle.goo_registry.specs.AccountReads.{IsHeadingShown, IsNextRunShown}
-use Rattle.goo_registry.specs.declared.heading.Heading.{Heading}
+use Rattle.goo_registry_reads.specs.AccountReads.{IsHeadingShown, IsNextRunShown}
+use Rattle.goo_registry_reads.specs.declared.heading.Heading.{Heading}
 use Rattle.goo_registry.specs.declared.cancellation_statement.CancellationStatement.{CancellationStatement}
 
 -- two answers with the same runs, or with the same denial

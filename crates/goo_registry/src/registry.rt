@@ -17,15 +17,13 @@ ghost use Rattle.goo_registry.specs.Running.{Runs, RunsAsOne, answered, answers}
 ghost use Rattle.goo_registry.specs.Shown.{Shows, split_denial};
 ghost use Rattle.goo_spec_runs.specs.NextRun.{from_of, BeginsFrom};
 ghost use Rattle.goo_core_reads.specs.Ahead.{IsSeen, IsPlaceAfter};
-ghost use Rattle.goo_registry.specs.AccountReads.{IsHeadingShown, IsNextRunShown, IsRunRead};
+ghost use Rattle.goo_registry_reads.specs.AccountReads.{IsHeadingShown, IsNextRunShown, IsRunRead};
 ghost use Rattle.goo_registry.specs.Reads.{place_shown, notice_shown, AreHoldings};
 ghost use Rattle.goo_registry.specs.Reads.{IsCancellationShown, IsAudit};
 
-use crate::account_reads::{find_heading, find_next_run, find_run_after};
 use crate::apply::carry_out;
 use crate::cancellation::find_cancellation;
 use crate::cancellation_statement::CancellationStatement;
-use crate::heading::Heading;
 use crate::holdings::find_holdings;
 use crate::notice::find_notice;
 use crate::place::find_place;
@@ -37,6 +35,8 @@ use goo_core_reads::device_totals::find_totals;
 use goo_core_reads::run_place::RunPlace;
 use goo_core_shelf::found::DeviceTotals;
 use goo_core_shelf::shelf::Shelf;
+use goo_registry_reads::account_reads::{find_heading, find_next_run, find_run_after};
+use goo_registry_reads::heading::Heading;
 use goo_types::account_no::AccountNo;
 use goo_types::act_no::ActNo;
 use goo_types::fault::Fault;

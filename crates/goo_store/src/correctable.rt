@@ -12,7 +12,7 @@ ghost use Rattle.goo_store.specs.Seen.{Blames, seen_by};
 use crate::declarations::declaration_in_row;
 use crate::lowering::left_off;
 use crate::sql_shelf::SqlShelf;
-use goo_store_rules::correct_record::CorrectRecord;
+use goo_core_shelf::correct_record::CorrectRecord;
 use goo_store_values::noting::note_fault;
 use goo_store_values::statement_fault::StatementFault;
 use goo_tables::declaration::find_declaration;

@@ -10,7 +10,7 @@ ghost use Rattle.goo_store_values.specs.Passing.{Accepts, Passes};
 ghost use Rattle.goo_store.specs.Seen.{Blames, seen_by};
 
 use crate::sql_shelf::SqlShelf;
-use goo_store_rules::correct_record::CorrectRecord;
+use goo_core_shelf::correct_record::CorrectRecord;
 use goo_store_rules::corrects::corrects_in;
 use goo_store_values::noting::note_fault;
 use goo_store_values::statement_fault::StatementFault;

@@ -3,7 +3,7 @@
 ghost use Rattle.std.specs.Prelude.{◌≡◌, ◌-◌};
 ghost use Rattle.goo_spec.specs.Energy.{net, lowered_by as lowered_for};
 
-use goo_store_rules::correct_record::CorrectRecord;
+use goo_core_shelf::correct_record::CorrectRecord;
 use goo_types::command::Declare;
 use goo_types::wh::Wh;
 

@@ -4,7 +4,7 @@ ghost use Rattle.std.specs.Prelude.{IfOk, IsOkUnless};
 ghost use Rattle.goo_store_audit.specs.Summing.{AreTakenBy};
 ghost use Rattle.goo_store_values.specs.declared.statement_fault.StatementFault.TheVariants.{Memory};
 
-use goo_store_rules::correct_record::CorrectRecord;
+use goo_core_shelf::correct_record::CorrectRecord;
 use goo_store_rules::sums::sum_lowered;
 use goo_store_rules::taken_back::withdrawals_of;
 use goo_store_values::statement_fault::StatementFault;

@@ -2,7 +2,6 @@
 #![tactic(auto)]
 
 pub mod apart;
-pub mod correct_record;
 pub mod corrects;
 pub mod cut;
 pub mod declared;

@@ -12,7 +12,7 @@ ghost use Rattle.goo_store_rules.specs.Production.{IsProductionAccepted, IsProdu
 ghost use Rattle.goo_store_rules.specs.Production.{IsCorrectedKept, KeepsProduction, pieces_in};
 ghost use Rattle.goo_store_rules.specs.Summing.{sum_at, KeepsEnergy};
 
-use crate::correct_record::CorrectRecord;
+use goo_core_shelf::correct_record::CorrectRecord;
 use crate::corrects::corrects_in;
 use crate::declares::declares_in;
 use crate::energy::{Energy, sum_energy};

@@ -5,7 +5,7 @@ ghost use Rattle.std.specs.Str.{bytes_eq};
 ghost use Rattle.goo_spec.specs.Energy.{net as net_energy, net_of, less_of};
 ghost use Rattle.goo_store_rules.specs.Summing.{sum_at};
 
-use crate::correct_record::CorrectRecord;
+use goo_core_shelf::correct_record::CorrectRecord;
 use goo_types::command::Declare;
 use goo_types::gsrn::Gsrn;
 use std::alloc::{AllocError, Global};

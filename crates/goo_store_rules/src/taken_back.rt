@@ -4,7 +4,7 @@ ghost use Rattle.std.specs.Prelude.{◌≡◌, IfOk};
 ghost use Rattle.std.specs.BTreeSet.{contains};
 ghost use Rattle.goo_store_rules.specs.Correcting.{device_act_cmp, AreTakenBack};
 
-use crate::correct_record::CorrectRecord;
+use goo_core_shelf::correct_record::CorrectRecord;
 use goo_types::gsrn::Gsrn;
 use std::alloc::{AllocError, Global};
 use std::collections::BTreeSet;

@@ -8,7 +8,7 @@ ghost use Rattle.goo_store_values.specs.declared.statement_fault.StatementFault.
 
 use crate::statement_fault::StatementFault;
 use crate::{numbers, texts};
-use goo_store_rules::correct_record::CorrectRecord;
+use goo_core_shelf::correct_record::CorrectRecord;
 use goo_tables_rows::correction::CorrectionRow;
 
 /// The correction in its row.

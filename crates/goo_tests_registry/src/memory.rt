@@ -1,4 +1,4 @@
-//! Memory refused at any one allocation. `tools/refuse-memory` runs this test with each allocation
+//! Memory refused at any one allocation. `tools/trials/refuse-memory` runs this test with each allocation
 //! refused in turn.
 //!
 //! A request that was refused memory changed nothing: the registry shows what it showed before, and

@@ -1,4 +1,4 @@
-//! Worked cases by topic, in tables that tools/cases-as-tests writes from cases/.
+//! Worked cases by topic, in tables that tools/gate/cases-as-tests writes from cases/.
 
 mod carriers;
 mod correction_limits;

@@ -1,7 +1,7 @@
 //! What a registry writes for people, byte for byte, and a table of declarations that it imports,
 //! over tables and over lists.
 //!
-//! `tools/refuse-memory` runs the test with each request for memory refused in turn that is made
+//! `tools/trials/refuse-memory` runs the test with each request for memory refused in turn that is made
 //! between two marks: then an import keeps the rows of its report and no others, and a text is
 //! written up to some place.
 
@@ -23,7 +23,7 @@ use goo_types::holder_code::HolderCode;
 use std::alloc::Global;
 use std::process::Abort;
 
-/// How many bytes a mark asks for; `tools/refuse-memory` knows this number.
+/// How many bytes a mark asks for; `tools/trials/refuse-memory` knows this number.
 const MARK: usize = 7_777_777;
 
 /// More bytes than any text has, so that it never grows.

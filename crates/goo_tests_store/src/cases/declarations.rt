@@ -1,4 +1,4 @@
-//! Worked cases, written by tools/cases-as-tests from cases/: change them there.
+//! Worked cases, written by tools/gate/cases-as-tests from cases/: change them there.
 
 use crate::worked::Case;
 

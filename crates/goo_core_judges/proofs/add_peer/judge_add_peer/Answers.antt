@@ -1,4 +1,4 @@
-use Rattle.goo_core_judges.proofs.Stopping.{looked_failed}
+use Rattle.goo_core_moves.proofs.Stopping.{looked_failed}
 use Rattle.goo_core_judges.proofs.add_peer.judge_add_peer.Goals as goal
 
 pub returns-in_err-peer : goal.returns-in_err-peer

@@ -8,9 +8,9 @@ use Rattle.goo_spec.specs.Lots.{is_held_by}
 use Rattle.goo_core_judges.specs.CloseAccount.{entry_checks}
 use Rattle.goo_core_judges.specs.Verdict.{verdict_of}
 use Rattle.goo_core_shelf.proofs.Looking.{looked, looked_then}
-use Rattle.goo_core_judges.proofs.Rulings.{failed_early}
+use Rattle.goo_core_moves.proofs.Rulings.{failed_early}
 use Rattle.goo_core_judges.proofs.Closing.{holding, closed_late}
-use Rattle.goo_core_judges.proofs.Stopping.{looked_failed, looked_past}
+use Rattle.goo_core_moves.proofs.Stopping.{looked_failed, looked_past}
 use Rattle.goo_core_judges.proofs.close_account.judge_close_account.Goals as goal
 
 pub returns-in-Some : goal.returns-in-Some

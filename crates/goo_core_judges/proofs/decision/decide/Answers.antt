@@ -3,7 +3,8 @@ use Rattle.std.specs.FinMap.{get}
 use Rattle.goo_spec.specs.State.{State}
 use Rattle.goo_core_judges.specs.Decision.{IsDecision}
 use Rattle.goo_core_shelf.proofs.Looking.{looked, looked_then, looked_as}
-use Rattle.goo_core_judges.proofs.Stopping.{looked_failed, kept_decided, kept_by_none}
+use Rattle.goo_core_moves.proofs.Stopping.{looked_failed}
+use Rattle.goo_core_judges.proofs.Keeping.{kept_decided, kept_by_none}
 use Rattle.goo_core_judges.proofs.decision.decide.Goals as goal
 
 pub returns-in_err-receipt : goal.returns-in_err-receipt

@@ -1,7 +1,7 @@
 use Rattle.goo_core_rules.specs.Decision.{IsDecisionBy}
 use Rattle.goo_core_judges.proofs.Deciding.{decided}
 use Rattle.goo_core_shelf.proofs.Looking.{looked_or_full}
-use Rattle.goo_core_judges.proofs.Stopping.{looked_failed}
+use Rattle.goo_core_moves.proofs.Stopping.{looked_failed}
 use Rattle.goo_core_judges.proofs.decision.decide_fresh.Goals as goal
 
 pub returns : goal.returns

@@ -5,10 +5,10 @@ use Rattle.goo_spec.specs.CloseAccount.{close_account_refusal, close_account_rep
 use Rattle.goo_spec.specs.RegisterDevice.{register_device_refusal, register_device_reply, with_device}
 use Rattle.goo_spec.specs.AddPeer.{add_peer_refusal, add_peer_reply, with_peer}
 use Rattle.goo_core_shelf.specs.Shelf.{Looks}
-use Rattle.goo_core_judges.specs.Ruling.{IsRuling, meaning_of}
+use Rattle.goo_core_moves.specs.Ruling.{IsRuling, meaning_of}
 use Rattle.goo_core_judges.proofs.Deciding.{quiet_ruled}
 use Rattle.goo_core_shelf.proofs.Looking.{looked}
-use Rattle.goo_core_judges.proofs.Stopping.{looked_failed}
+use Rattle.goo_core_moves.proofs.Stopping.{looked_failed}
 use Rattle.goo_core_judges.proofs.decision.judge.Goals as goal
 
 pub returns-in_ok-judge_open_holder-in-OpenHolder : goal.returns-in_ok-judge_open_holder-in-OpenHolder

@@ -1,5 +1,5 @@
 use Rattle.std.proofs.Common.{◌∙◌, ◌≤◌, length, refl, sym}
-use Rattle.goo_core_judges.specs.Changes.{IsTurnedInTurn}
+use Rattle.goo_core_moves.specs.Changes.{IsTurnedInTurn}
 use Rattle.std.specs.Option.{option_to_list}
 use Rattle.goo_core_judges.specs.Issue.{with_issued, range_in}
 use Rattle.goo_core_judges.proofs.Issuing.{declared_fails, ruled_declare}

@@ -1,4 +1,4 @@
-use Rattle.goo_core_judges.proofs.Stopping.{looked_failed, looked_on, looked_past}
+use Rattle.goo_core_moves.proofs.Stopping.{looked_failed, looked_on, looked_past}
 use Rattle.goo_core_judges.proofs.declare.read_standing.Goals as goal
 
 pub returns-in_err-found : goal.returns-in_err-found

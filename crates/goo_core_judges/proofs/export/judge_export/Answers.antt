@@ -5,7 +5,7 @@ use Rattle.goo_core_judges.specs.Export.{IsExportRuling}
 use Rattle.goo_core_shelf.specs.declared.own.Meta.{Meta}
 use Rattle.goo_core_shelf.proofs.Looking.{looked, looked_or_full, looked_then}
 use Rattle.goo_core_judges.proofs.Exporting.{entry-fails, ruled_export}
-use Rattle.goo_core_judges.proofs.Stopping.{looked_failed, looked_on, looked_past}
+use Rattle.goo_core_moves.proofs.Stopping.{looked_failed, looked_on, looked_past}
 use Rattle.goo_core_judges.proofs.export.judge_export.Goals as goal
 
 pub returns-in-Some : goal.returns-in-Some

@@ -3,7 +3,7 @@ use Rattle.std.proofs.lemmas.List.{take_all}
 use Rattle.goo_core_judges.specs.Import.{IsArriving, AreArriving}
 use Rattle.goo_core_judges.proofs.Arrivals.{arriving_more}
 use Rattle.goo_core_shelf.proofs.Looking.{looked, looked_then}
-use Rattle.goo_core_judges.proofs.Stopping.{looked_failed, looked_full}
+use Rattle.goo_core_moves.proofs.Stopping.{looked_failed, looked_full}
 use Rattle.goo_core_judges.proofs.import.arrive_all.Goals as goal
 
 pub loop-part-preserved : goal.loop-part-preserved

@@ -4,10 +4,10 @@ use Rattle.goo_types.specs.declared.part.Part.{Part}
 use Rattle.goo_spec.specs.Maps.{count_of}
 use Rattle.goo_core_judges.specs.Import.{AreArriving}
 use Rattle.goo_core_judges.specs.Taking.{IsTakeRuling}
-use Rattle.goo_core_judges.specs.declared.arriving.Arriving.{Arriving}
+use Rattle.goo_core_moves.specs.declared.arriving.Arriving.{Arriving}
 use Rattle.goo_core_judges.proofs.Importing.{met_all, ruled_for, ruled_fresh}
 use Rattle.goo_core_shelf.proofs.Looking.{looked_or_full}
-use Rattle.goo_core_judges.proofs.Stopping.{looked_failed}
+use Rattle.goo_core_moves.proofs.Stopping.{looked_failed}
 use Rattle.goo_core_judges.proofs.import.import_certificates.Goals as goal
 
 pub returns : goal.returns

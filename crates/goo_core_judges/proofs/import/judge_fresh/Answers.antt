@@ -1,4 +1,4 @@
-use Rattle.goo_core_judges.proofs.Stopping.{looked_failed}
+use Rattle.goo_core_moves.proofs.Stopping.{looked_failed}
 use Rattle.goo_core_judges.proofs.import.judge_fresh.Goals as goal
 
 pub returns-in_err-refusal : goal.returns-in_err-refusal

@@ -6,10 +6,10 @@ use Rattle.goo_spec.specs.Maps.{count_of}
 use Rattle.goo_core_shelf.specs.Meta.{meta_of}
 use Rattle.goo_core_shelf.specs.Shelf.{arrival_of}
 use Rattle.goo_core_judges.specs.Import.{IsEntry, fresh_meaning}
-use Rattle.goo_core_judges.specs.Ruling.{IsRuling}
+use Rattle.goo_core_moves.specs.Ruling.{IsRuling}
 use Rattle.goo_core_judges.proofs.Importing.{ruled_early, ruled_same, ruled_other, ruled_absent}
 use Rattle.goo_core_shelf.proofs.Looking.{looked, looked_then, looked_as}
-use Rattle.goo_core_judges.proofs.Stopping.{looked_failed, looked_past}
+use Rattle.goo_core_moves.proofs.Stopping.{looked_failed, looked_past}
 use Rattle.goo_core_judges.proofs.import.judge_import.Goals as goal
 
 pub returns-in-Err : goal.returns-in-Err

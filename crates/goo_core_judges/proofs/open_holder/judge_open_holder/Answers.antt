@@ -1,4 +1,4 @@
-use Rattle.goo_core_judges.proofs.Stopping.{looked_failed}
+use Rattle.goo_core_moves.proofs.Stopping.{looked_failed}
 use Rattle.goo_core_judges.proofs.open_holder.judge_open_holder.Goals as goal
 
 pub returns-in_err-holder : goal.returns-in_err-holder

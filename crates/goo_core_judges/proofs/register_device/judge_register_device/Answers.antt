@@ -1,4 +1,4 @@
-use Rattle.goo_core_judges.proofs.Stopping.{looked_failed, looked_past}
+use Rattle.goo_core_moves.proofs.Stopping.{looked_failed, looked_past}
 use Rattle.goo_core_judges.proofs.register_device.judge_register_device.Goals as goal
 
 pub returns-in_err-device : goal.returns-in_err-device

@@ -4,7 +4,7 @@ use Rattle.goo_ranges.specs.declared.edits.Edit.{Edit}
 use Rattle.goo_ranges_rows.specs.Plans.{AreEditsOf}
 use Rattle.goo_ranges_rows.specs.Rows.{meeting}
 use Rattle.goo_core_judges.specs.Taking.{IsStepOf, IsPartEdit, AreTaken}
-use Rattle.goo_core_judges.specs.declared.arriving.Arriving.{Arriving}
+use Rattle.goo_core_moves.specs.declared.arriving.Arriving.{Arriving}
 use Rattle.goo_core_judges.proofs.Takings.{taken_more, met_at}
 use Rattle.goo_core_judges.proofs.taking.take_parts.Goals as goal
 

@@ -1,7 +1,7 @@
 use Rattle.std.proofs.Common.{◌≡◌, Ok}
 use Rattle.goo_types.specs.Piece.{IsRising}
 use Rattle.goo_core_shelf.specs.Shelf.{Looks}
-use Rattle.goo_registry.specs.AccountReads.{IsHeadingShown}
+use Rattle.goo_registry_reads.specs.AccountReads.{IsHeadingShown}
 use Rattle.goo_files.proofs.Cases.{on_ok_as, on_err_as}
 use Rattle.goo_files.proofs.Documents.{document_done}
 use Rattle.goo_files.proofs.cancellation.write_cancellation.Goals as goal

@@ -3,7 +3,7 @@ use Rattle.std.specs.Io.KnownBytes.{Appends}
 use Rattle.goo_files_streams.specs.Streams.{AppendsPrefix}
 use Rattle.goo_core_shelf.specs.Shelf.{Looks}
 use Rattle.goo_spec_runs.specs.NextRun.{from_of, BeginsFrom}
-use Rattle.goo_registry.specs.AccountReads.{IsNextRunFound}
+use Rattle.goo_registry_reads.specs.AccountReads.{IsNextRunFound}
 use Rattle.goo_core_reads.specs.Ahead.{IsSeen}
 use Rattle.goo_registry.specs.Shown.{split_denial}
 use Rattle.goo_types.specs.declared.piece.Piece.{Piece}

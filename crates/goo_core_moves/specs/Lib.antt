@@ -1,0 +1,10 @@
+pub mod AccountRuns
+pub mod Edits
+pub mod Ruling
+pub mod Changes
+pub mod Transfer
+pub mod Moves
+pub mod Cancel
+pub mod Advance
+pub mod Withdraw
+pub mod Arrivals
