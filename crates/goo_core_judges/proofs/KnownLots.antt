@@ -17,7 +17,7 @@ use Rattle.goo_spec.specs.State.{State}
 use Rattle.goo_spec.specs.Step.{outcome, changed, accept, after, next}
 use Rattle.goo_spec.proofs.Mapping.{none_some}
 use Rattle.goo_spec.proofs.Stepping.{sound_accept}
-use Rattle.goo_spec_final.proofs.Lasting.{never_again}
+use Rattle.goo_spec_laws.proofs.Lasting.{never_again}
 use Rattle.goo_ranges.specs.declared.edits.Edit.{Edit}
 use Rattle.goo_ranges_rows.specs.Rows.{AreRowsOf}
 use Rattle.goo_core_shelf.specs.Plan.{HaveKnownLots}

@@ -14,9 +14,9 @@ use Rattle.goo_spec.specs.Sound.{IsSound}
 use Rattle.goo_spec.specs.State.{State, Account, Cancellation, Sent}
 use Rattle.goo_spec.proofs.Mapping.{none_some}
 use Rattle.goo_spec.proofs.Stepping.{sound_final}
-use Rattle.goo_spec_independent.specs.Agree.{AgreeOn, its_certificate, its_cancellation, its_notice}
-use Rattle.goo_spec_independent.specs.Independent.{on_day}
-use Rattle.goo_spec_independent.proofs.Lists.{independent}
+use Rattle.goo_spec_laws.specs.Agree.{AgreeOn, its_certificate, its_cancellation, its_notice}
+use Rattle.goo_spec_laws.specs.Independent.{on_day}
+use Rattle.goo_spec_laws.proofs.AccountLists.{independent}
 use Rattle.goo_core_reads.specs.Reads.{may_see}
 use Rattle.goo_core_reads.specs.declared.denial.Denial.{Denial}
 use Rattle.goo_core_reads.specs.declared.denial.Denial.TheVariants.{NotAllowed, Unknown}

@@ -8,8 +8,8 @@ use Rattle.goo_spec.specs.Obeys.{AllObey}
 use Rattle.goo_spec.specs.Run.{final}
 use Rattle.goo_spec.specs.Sound.{IsSound}
 use Rattle.goo_spec.specs.State.{State, Cancellation, Sent}
-use Rattle.goo_spec_independent.specs.Agree.{AgreeOn}
-use Rattle.goo_spec_independent.specs.Independent.{AreOfOthers, on_day}
+use Rattle.goo_spec_laws.specs.Agree.{AgreeOn}
+use Rattle.goo_spec_laws.specs.Independent.{AreOfOthers, on_day}
 use Rattle.goo_core_reads.specs.Reads.{may_see}
 use Rattle.goo_desk_routes.specs.declared.task.Subject.TheVariants as subject
 use Rattle.goo_desk_independent.specs.Asking.{Asks, AnswerAlike}

@@ -5,7 +5,7 @@ use Rattle.goo_types.specs.Place.{account_of}
 use Rattle.goo_types.specs.Piece.{Label}
 use Rattle.goo_spec.specs.Checks.{is_issuer, is_holder}
 use Rattle.goo_spec.specs.State.{State}
-use Rattle.goo_spec_independent.specs.Agree.{AgreeOn}
+use Rattle.goo_spec_laws.specs.Agree.{AgreeOn}
 use Rattle.goo_desk_responses.specs.Responses.{response_text, fixed}
 use Rattle.goo_desk_responses.specs.declared.status.Status.{Status}
 use Rattle.goo_desk_responses.specs.declared.status.Status.TheVariants.{NotFound}

@@ -10,7 +10,7 @@ ghost use Rattle.goo_desk_independent.specs.Holder.{HoldersSeeTheirOwn, OutsideI
 
 /// Of an account, whoever asks.
 ///
-/// - `law`: two sound states that agree on an account (`AgreeOn` of `goo_spec_independent`) answer
+/// - `law`: two sound states that agree on an account (`AgreeOn` of `goo_spec_laws`) answer
 ///   the same bytes with one status and one text, where these ask for its statement, the document
 ///   of a cancellation of its certificates, or a notice that it sent; and a certificate whose place
 ///   names it, to its holder and to the issuing body. A statement has the date in its heading, and

@@ -9,11 +9,11 @@ use Rattle.goo_spec.specs.Promise.{IsPromised}
 use Rattle.goo_spec.specs.Run.{final, outcomes}
 use Rattle.goo_spec.specs.State.{State}
 use Rattle.goo_spec.proofs.Promising.{others_left_out}
-use Rattle.goo_spec_authority.proofs.Lists.{moved_by_right}
-use Rattle.goo_spec_classes.proofs.Growing.{add_up}
-use Rattle.goo_spec_deadlines.proofs.Keeping.{in_time}
-use Rattle.goo_spec_final.proofs.Lasting.{for_good}
-use Rattle.goo_spec_independent.proofs.Lists.{left_alone}
+use Rattle.goo_spec_laws.proofs.Lists.{moved_by_right}
+use Rattle.goo_spec_laws.proofs.Growing.{add_up}
+use Rattle.goo_spec_laws.proofs.Keeping.{in_time}
+use Rattle.goo_spec_laws.proofs.Lasting.{for_good}
+use Rattle.goo_spec_laws.proofs.AccountLists.{left_alone}
 use Rattle.goo_files_import.proofs.PromiseFacts.{rows_obey}
 use Rattle.goo_files_import.specs.Import as rows
 use Rattle.goo_desk_body.specs.Body.{body_of}

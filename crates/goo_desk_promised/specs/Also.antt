@@ -6,11 +6,11 @@ use Rattle.goo_spec.specs.Promise.{IsPromised}
 use Rattle.goo_spec.specs.Run.{outcomes}
 use Rattle.goo_spec.specs.Sound.{IsSound}
 use Rattle.goo_spec.specs.State.{State}
-use Rattle.goo_spec_authority.specs.Authority.{IsMovedByRight}
-use Rattle.goo_spec_classes.specs.Classes.{AddsUp}
-use Rattle.goo_spec_deadlines.specs.Deadlines.{IsInTime}
-use Rattle.goo_spec_final.specs.Final.{IsForGood}
-use Rattle.goo_spec_independent.specs.Independent.{IsIndependent}
+use Rattle.goo_spec_laws.specs.Authority.{IsMovedByRight}
+use Rattle.goo_spec_laws.specs.Classes.{AddsUp}
+use Rattle.goo_spec_laws.specs.Deadlines.{IsInTime}
+use Rattle.goo_spec_laws.specs.Final.{IsForGood}
+use Rattle.goo_spec_laws.specs.Independent.{IsIndependent}
 use Rattle.goo_files_import.specs.Import as rows
 use Rattle.goo_desk_lines.specs.Requests as lines
 use Rattle.goo_desk_answers.specs.Brought.{AreLeft}

@@ -6,8 +6,8 @@ use Rattle.goo_spec.specs.Runs.{AreRunsOf}
 use Rattle.goo_spec.specs.Run.{final}
 use Rattle.goo_spec.specs.State.{State, Cancellation}
 use Rattle.goo_spec.proofs.Unique.{one_list_of_runs}
-use Rattle.goo_spec_independent.specs.Independent.{on_day}
-use Rattle.goo_spec_independent.proofs.Lists.{independent}
+use Rattle.goo_spec_laws.specs.Independent.{on_day}
+use Rattle.goo_spec_laws.proofs.AccountLists.{independent}
 use Rattle.goo_core_reads.specs.Reads.{kept_where, names}
 use Rattle.goo_files_csv.specs.Holdings.{holdings_text}
 use Rattle.goo_registry.specs.Reads.{is_cancelled_by}

@@ -12,8 +12,8 @@ use Rattle.goo_spec.specs.State.{State}
 use Rattle.goo_spec.specs.Energy.{issued, corrected, is_taken_back}
 use Rattle.goo_spec.proofs.Counting.{one_at}
 use Rattle.goo_spec.proofs.Pieces.{one_code}
-use Rattle.goo_spec_classes.specs.Classes.{Class, is_of, all_of, those_in, stated_in, over_accounts}
-use Rattle.goo_spec_classes.proofs.Stating.{by_account}
+use Rattle.goo_spec_laws.specs.Classes.{Class, is_of, all_of, those_in, stated_in, over_accounts}
+use Rattle.goo_spec_laws.proofs.Stating.{by_account}
 use Rattle.goo_core_reads.specs.Reads.{kept_if, names}
 use Rattle.goo_files.specs.Texts.{AreRunsNaming}
 use Rattle.goo_files_classes.specs.Told.{is_run_of, told_of, of_device, StatementsAddUp}

@@ -8,7 +8,7 @@ use Rattle.goo_spec.specs.Sound.{IsSound}
 use Rattle.goo_spec.specs.State.{State}
 use Rattle.goo_spec.specs.Energy.{is_taken_back}
 use Rattle.goo_spec.specs.Energy as energy
-use Rattle.goo_spec_classes.specs.Classes.{Class, is_of, all_of, those_in, stated_in, over_accounts}
+use Rattle.goo_spec_laws.specs.Classes.{Class, is_of, all_of, those_in, stated_in, over_accounts}
 use Rattle.goo_files.specs.Texts.{AreRunsNaming}
 use Rattle.goo_files_documents.specs.Runs.{count_of}
 

@@ -2,7 +2,7 @@
 //! technology, month, country or whatever a lot states, comes to the registry's own count.
 //!
 //! `specs/Told.antt` joins the runs of a statement (`AreRunsNaming` of `goo_files`) with the counts
-//! of `goo_spec_classes`.
+//! of `goo_spec_laws`.
 #![tactic(auto)]
 
 ghost use Rattle.goo_files_classes.specs.Told.{StatementsAddUp};

@@ -14,7 +14,7 @@ use Rattle.goo_spec.specs.Sound.{IsSound}
 use Rattle.goo_spec.specs.State.{State, Account, Cancellation, Sent}
 use Rattle.goo_spec.proofs.Mapping.{inside, none_some}
 use Rattle.goo_spec.proofs.Unique.{one_list_of_runs}
-use Rattle.goo_spec_independent.specs.Agree.{AgreeOn, its_certificate, its_cancellation, its_notice}
+use Rattle.goo_spec_laws.specs.Agree.{AgreeOn, its_certificate, its_cancellation, its_notice}
 use Rattle.goo_spec_runs.specs.NextRun.{from_of, above, IsNextRun}
 use Rattle.goo_core_reads.specs.Reads.{may_see, kept_if, kept_where, names}
 use Rattle.goo_core_reads.specs.declared.denial.Denial.{Denial}

@@ -7,7 +7,7 @@ use Rattle.goo_types.specs.Piece.{Label}
 use Rattle.goo_types.specs.declared.piece.Piece.{Piece}
 use Rattle.goo_spec.specs.Sound.{IsSound}
 use Rattle.goo_spec.specs.State.{State, Cancellation, Sent}
-use Rattle.goo_spec_independent.specs.Agree.{AgreeOn}
+use Rattle.goo_spec_laws.specs.Agree.{AgreeOn}
 use Rattle.goo_core_reads.specs.Reads.{may_see}
 use Rattle.goo_core_reads.specs.declared.denial.Denial.{Denial}
 use Rattle.goo_registry.specs.Reads.{place_shown, notice_shown, AreHoldings, IsCancellationShown}

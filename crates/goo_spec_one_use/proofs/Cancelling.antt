@@ -23,8 +23,8 @@ use Rattle.goo_spec.proofs.Fating.{fate_accept}
 use Rattle.goo_spec.proofs.Numbers.{one_within}
 use Rattle.goo_spec.proofs.Placing.{is_one_of, passed_over}
 use Rattle.goo_spec.proofs.Stepping.{accepted_passes}
-use Rattle.goo_spec_authority.specs.Ways.{Known}
-use Rattle.goo_spec_authority.proofs.Rows.{held_there, in_place}
+use Rattle.goo_spec_laws.specs.Ways.{Known}
+use Rattle.goo_spec_laws.proofs.Rows.{held_there, in_place}
 use Rattle.goo_spec_one_use.specs.Used.{cancels}
 
 -- held before, and cancelled after

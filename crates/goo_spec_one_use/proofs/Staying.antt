@@ -28,9 +28,9 @@ use Rattle.goo_spec.proofs.Fating.{fate_accept}
 use Rattle.goo_spec.proofs.Numbers.{one_within}
 use Rattle.goo_spec.proofs.Placing.{is_one_of}
 use Rattle.goo_spec.proofs.Stepping.{accepted_passes}
-use Rattle.goo_spec_authority.specs.Ways.{Known, IsGiven, IsTakenBack, IsCorrected, IsExported, IsAway, IsImported}
-use Rattle.goo_spec_authority.proofs.Rows.{StaysOr, moved, held_there, in_place, given_row, withdrawn_row, corrected_row, exported_row}
-use Rattle.goo_spec_authority.proofs.Taking.{imported_row}
+use Rattle.goo_spec_laws.specs.Ways.{Known, IsGiven, IsTakenBack, IsCorrected, IsExported, IsAway, IsImported}
+use Rattle.goo_spec_laws.proofs.Rows.{StaysOr, moved, held_there, in_place, given_row, withdrawn_row, corrected_row, exported_row}
+use Rattle.goo_spec_laws.proofs.Taking.{imported_row}
 
 -- an own number from the next serial on isn't known
 abbrev pub IsUnused : State → ℕ → Type 0

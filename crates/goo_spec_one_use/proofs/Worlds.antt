@@ -13,7 +13,7 @@ use Rattle.goo_types.specs.declared.outcome.Outcome.{Outcome}
 use Rattle.goo_types.specs.declared.outcome.Outcome.TheVariants.{Accepted, Repeated, Refused}
 use Rattle.goo_spec.specs.State.{State}
 use Rattle.goo_spec.specs.Step.{outcome, next}
-use Rattle.goo_spec_authority.specs.Ways.{Known}
+use Rattle.goo_spec_laws.specs.Ways.{Known}
 use Rattle.goo_spec_one_home.specs.World.{World, Event, Asks, Delivers, where_at, contains, nth, stepped, is_import, import_of, delivered, happens_at, happens, run, start, one, count, is_home, roads}
 use Rattle.goo_spec_one_home.proofs.Counts.{put-has, put-here}
 use Rattle.goo_spec_one_home.proofs.Keeps.{Keeps}

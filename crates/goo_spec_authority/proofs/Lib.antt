@@ -1,4 +1,0 @@
-pub mod Rows
-pub mod Taking
-pub mod Rights
-pub mod Lists

@@ -1,4 +1,0 @@
-pub mod Parting
-pub mod Stating
-pub mod Importing
-pub mod Growing

@@ -1,5 +1,0 @@
-use Rattle.goo_spec_classes.proofs.Growing.{always_add_up}
-use Rattle.goo_spec_classes.proofs.adds_up.Goals as goal
-
-pub returns : goal.returns
-returns c = always_add_up

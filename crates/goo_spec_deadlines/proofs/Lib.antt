@@ -1,4 +1,0 @@
-pub mod Dates
-pub mod Closing
-pub mod Ending
-pub mod Keeping

@@ -1,5 +1,0 @@
-use Rattle.goo_spec_deadlines.proofs.Keeping.{always_in_time}
-use Rattle.goo_spec_deadlines.proofs.in_time.Goals as goal
-
-pub returns : goal.returns
-returns c = always_in_time

@@ -1,4 +1,0 @@
-pub mod Places
-pub mod Issued
-pub mod Records
-pub mod Lasting

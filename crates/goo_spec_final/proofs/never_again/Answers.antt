@@ -1,5 +1,0 @@
-use Rattle.goo_spec_final.proofs.Lasting.{never_again}
-use Rattle.goo_spec_final.proofs.never_again.Goals as goal
-
-pub returns : goal.returns
-returns c = never_again

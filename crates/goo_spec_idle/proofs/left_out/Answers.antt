@@ -1,5 +1,0 @@
-use Rattle.goo_spec_idle.proofs.LeftOut.{each_is_idle}
-use Rattle.goo_spec_idle.proofs.left_out.Goals as goal
-
-pub returns : goal.returns
-returns c = each_is_idle

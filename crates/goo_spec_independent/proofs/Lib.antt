@@ -1,4 +1,0 @@
-pub mod Certificates
-pub mod Records
-pub mod Lists
-pub mod Example

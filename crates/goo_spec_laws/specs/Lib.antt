@@ -1,0 +1,11 @@
+pub mod Ways
+pub mod Rights
+pub mod Authority
+pub mod Final
+pub mod Idle
+pub mod Again
+pub mod Deadlines
+pub mod Naming
+pub mod Agree
+pub mod Independent
+pub mod Classes
