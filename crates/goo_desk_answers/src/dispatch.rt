@@ -1,5 +1,6 @@
 //! The answer to all the bytes of a stream: the request that they are goes to what answers it.
 ghost use Rattle.std.specs.Prelude.{◌≡◌, ◌≢◌, IfOk, OnErr};
+ghost use Rattle.goo_desk_heads.specs.Heads.{Begins};
 ghost use Rattle.goo_desk_heads.specs.Requests.{seen as parts_seen, parts_of};
 ghost use Rattle.goo_desk_responses.specs.Responses.{response_text, fixed};
 ghost use Rattle.goo_core_shelf.specs.Crash.{FindsNoMore};
@@ -17,7 +18,9 @@ use crate::handling::{Handling, handling_for};
 use crate::import::answer_import;
 use crate::show::answer_show;
 use goo_desk_backend::Backend;
-use goo_desk_heads::{HeadFault, Method, Received, RefusedHead, is_for_head, read_request};
+use goo_desk_heads::{
+    Front, HeadFault, Method, Received, RefusedHead, is_for_head, read_request, request_in,
+};
 use goo_desk_responses::{Status, fixed_response};
 use goo_desk_routes::{Routes, Task};
 use goo_types::fault::Fault;
@@ -142,8 +145,8 @@ fn answer_request<D: Backend>(
     }
 }
 
-/// The answer to all the bytes that a stream holds, by the routes of the registry, once what keeps
-/// the records answers.
+/// The answer to all the bytes that a stream holds, which begin with what is known, by the routes of
+/// the registry, once what keeps the records answers.
 ///
 /// `shut`: where a call below failed before, nothing is put where a crash finds it. So a server may
 /// go on after a `Memory` under which a call failed too.
@@ -156,7 +159,9 @@ pub fn answer_by_routes<D: Backend>(
     routes: &Routes,
     desk: &mut D,
     bytes: &[u8],
+    front: &Front,
 ) -> Result<Answer, Fault>
+    requires { Begins bytes.now front.now }
     ensures answered { (D.seen desk.new).corruptions ≡ 0
         → IfOk result
         (λ answer. Responds D.shows D.imports
@@ -175,7 +180,7 @@ pub fn answer_by_routes<D: Backend>(
     ensures shut { (D.seen desk.new).corruptions ≡ 0 → (D.seen desk.old).defects ≢ 0
         → FindsNoMore (D.leaves desk.old) (D.leaves desk.new) }
 {
-    let request = read_request(bytes);
+    let request = request_in(bytes, front);
     desk.probe()?;
     answer_request(alloc, routes, desk, &request)
 }

@@ -4,6 +4,7 @@ use Rattle.std.specs.Char.{to_ascii_lowercase, is_ascii_digit}
 use Rattle.std.specs.List.{list_all}
 use Rattle.std.specs.Str.Parse.{digits_value}
 use Rattle.std.specs.Cmp.Lexicographic.{pointwise}
+use Rattle.httparse.specs.Spans.{IsWithin, span_bytes}
 use Rattle.goo_desk_heads.specs.declared.occurrence.Occurrence.{Occurrence}
 use Rattle.goo_desk_heads.specs.declared.occurrence.Occurrence.TheVariants.{Absent, Once, Repeated}
 use Rattle.goo_desk_heads.specs.declared.refusal.HeadFault.{HeadFault}
@@ -17,11 +18,11 @@ same_name a b = pointwise nat_eq (map to_ascii_lowercase a) (map to_ascii_lowerc
 abbrev pub values_of : List ℕ → List (List ℕ × List ℕ) → List (List ℕ)
 values_of name fields = map (λ f. f.1) (filter (λ f. same_name f.0 name) fields)
 
--- how often a field occurs
-abbrev pub Occurs : List (List ℕ) → Occurrence → Type 0
-Occurs values Absent = values ≡ []
-Occurs values (Once value) = values ≡ value.now ∷ []
-Occurs values Repeated = 1 < length values
+-- how often a field of the bytes occurs
+abbrev pub Occurs : List ℕ → List (List ℕ) → Occurrence → Type 0
+Occurs bytes values Absent = values ≡ []
+Occurs bytes values (Once value) = IsWithin (length bytes) value × (values ≡ span_bytes bytes value ∷ [])
+Occurs bytes values Repeated = 1 < length values
 
 -- the value of a field that occurs just once
 abbrev pub sole : List (List ℕ) → Option (List ℕ)

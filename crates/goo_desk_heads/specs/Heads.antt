@@ -1,7 +1,7 @@
 -- Whether bytes begin with a head.
-use Rattle.std.specs.Prelude.{◌≡◌, ℕ, ◌<◌, ◌≤◌, List, ◌++◌, length, map, drop, codes, Option, option_map, Result, IfOk}
+use Rattle.std.specs.Prelude.{◌≡◌, ℕ, ◌<◌, ◌≤◌, List, ◌++◌, length, map, drop, codes, Option, option_map, Result, IfOk, IfSome}
 use Rattle.httparse.specs.Grammar.{RequestHead, ReadsRequest, print_request}
-use Rattle.httparse.specs.Spans.{name_and_value}
+use Rattle.httparse.specs.Spans.{IsWithin, name_and_value, span_bytes}
 use Rattle.goo_desk_heads.specs.Fields.{body_length, most_body, sole, values_of}
 use Rattle.goo_desk_heads.specs.declared.refusal.HeadFault.{HeadFault}
 use Rattle.goo_desk_heads.specs.declared.front.Front.{Front}
@@ -39,17 +39,26 @@ caller_of h = sole (values_of (codes "goo-caller") (map name_and_value h.fields)
 abbrev pub length_of : RequestHead → Result ℕ HeadFault
 length_of h = body_length h.minor (map name_and_value h.fields)
 
--- what a head asks for, and the bytes after it
+-- where the parts of a head are among the bytes, and what it says of its body
 pub record TellsHead (bytes : List ℕ) (h : RequestHead) (head : Head) : Type 0 where
-  pub method : head.method.now ≡ h.method
-  pub target : head.target.now ≡ h.target
-  pub caller : option_map (λ value. value.now) head.caller ≡ caller_of h
-  pub length : head.length ≡ length_of h
-  pub few : IfOk head.length (λ length. length ≤ most_body)
-  pub rest : head.rest.now ≡ after_head bytes h
+  pub method_within : IsWithin (length bytes) head.method
+  pub target_within : IsWithin (length bytes) head.target
+  pub caller_within : IfSome head.caller (IsWithin (length bytes))
+  pub method : span_bytes bytes head.method ≡ h.method
+  pub target : span_bytes bytes head.target ≡ h.target
+  pub caller : option_map (span_bytes bytes) head.caller ≡ caller_of h
+  pub ends : head.end ≡ length (print_request h)
+  pub size : head.length ≡ length_of h
+  pub few : IfOk head.length (λ count. count ≤ most_body)
 
 -- what bytes begin with
 abbrev pub Begins : List ℕ → Front → Type 0
 Begins bytes front.Unfinished = HasNoHead bytes × (length bytes < most_head)
 Begins bytes front.Refused = NeverHasHead bytes
 Begins bytes (front.Head head) = (h : RequestHead) × HasHead bytes h × TellsHead bytes h head
+
+-- the same, told of fewer bytes, where more can't change it
+abbrev pub HasBegun : List ℕ → Front → Type 0
+HasBegun bytes front.Unfinished = Unit {0}
+HasBegun bytes front.Refused = NeverHasHead bytes
+HasBegun bytes (front.Head head) = Begins bytes (front.Head head)

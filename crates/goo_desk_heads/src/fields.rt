@@ -1,17 +1,17 @@
 //! The fields of a head that tell how long the body is and who calls. A request of HTTP/1.1 without
 //! `Host`, and any with two, is refused (RFC 9112, section 3.2), and so is a transfer coding
 //! (section 6.1).
-ghost use Rattle.std.specs.Prelude.{◌≡◌, ◌≤◌, length, map, All, option_map, IfOk};
+ghost use Rattle.std.specs.Prelude.{◌≡◌, ◌≤◌, length, map, All, option_map, IfOk, IfSome};
 ghost use Rattle.std.specs.List.{list_all};
 ghost use Rattle.std.specs.Char.{is_ascii_digit};
-ghost use Rattle.httparse.specs.Spans.{IsHeaderWithin, header_bytes};
+ghost use Rattle.httparse.specs.Spans.{IsHeaderWithin, IsWithin, header_bytes, span_bytes};
 ghost use Rattle.goo_desk_heads.specs.Fields.{Occurs, values_of, same_name};
 ghost use Rattle.goo_desk_heads.specs.Fields.{length_in as length_stated};
 ghost use Rattle.goo_desk_heads.specs.Fields.{body_length as body_length_stated, sole, most_body};
 
 use crate::occurrence::Occurrence;
 use crate::refusal::HeadFault;
-use httparse::spans::HeaderSpan;
+use httparse::spans::{HeaderSpan, Span};
 
 /// The most bytes of a body.
 pub const MOST_BODY: u64 = 1_048_576;
@@ -23,16 +23,16 @@ fn is_named(name: &[u8], wanted: &str) -> bool
     name.eq_ignore_ascii_case(wanted.as_bytes())
 }
 
-/// How often a field occurs, and its value where that is once.
-fn field_value<'b>(buf: &'b [u8], headers: &[HeaderSpan], wanted: &str) -> Occurrence<'b>
+/// How often a field occurs, and where its value is where that is once.
+fn field_value(buf: &[u8], headers: &[HeaderSpan], wanted: &str) -> Occurrence
     requires { All (IsHeaderWithin (length buf.now)) headers.now }
-    ensures { Occurs (values_of wanted.now (map (header_bytes buf.now) headers.now)) result }
+    ensures { Occurs buf.now (values_of wanted.now (map (header_bytes buf.now) headers.now)) result }
 {
     let mut found = Occurrence::Absent;
     for header in headers {
         if is_named(header.name.of(buf), wanted) {
             found = match found {
-                Occurrence::Absent => Occurrence::Once(header.value.of(buf)),
+                Occurrence::Absent => Occurrence::Once(header.value),
                 Occurrence::Once(_) | Occurrence::Repeated => Occurrence::Repeated,
             };
         }
@@ -40,17 +40,14 @@ fn field_value<'b>(buf: &'b [u8], headers: &[HeaderSpan], wanted: &str) -> Occur
     found
 }
 
-/// The value of a field that occurs just once.
+/// Where the value of a field is that occurs just once.
 ///
 /// Two fields are none: a front door that adds its own caller must not be outvoted by another.
-pub(crate) fn sole_value<'b>(
-    buf: &'b [u8],
-    headers: &[HeaderSpan],
-    wanted: &str,
-) -> Option<&'b [u8]>
+pub(crate) fn sole_value(buf: &[u8], headers: &[HeaderSpan], wanted: &str) -> Option<Span>
     requires { All (IsHeaderWithin (length buf.now)) headers.now }
-    ensures { option_map (λ value. value.now) result
+    ensures value { option_map (span_bytes buf.now) result
         ≡ sole (values_of wanted.now (map (header_bytes buf.now) headers.now)) }
+    ensures within { IfSome result (IsWithin (length buf.now)) }
 {
     match field_value(buf, headers, wanted) {
         Occurrence::Absent => None,
@@ -102,7 +99,7 @@ pub(crate) fn body_length(minor: u8, buf: &[u8], headers: &[HeaderSpan]) -> Resu
     }
     match field_value(buf, headers, "content-length") {
         Occurrence::Absent => Ok(0),
-        Occurrence::Once(value) => length_in(value),
+        Occurrence::Once(value) => length_in(value.of(buf)),
         Occurrence::Repeated => Err(HeadFault::BadRequest),
     }
 }

@@ -1,11 +1,11 @@
 //! Whether bytes begin with a head.
-ghost use Rattle.std.specs.Prelude.{◌≡◌, IsUtf8};
-ghost use Rattle.goo_desk_heads.specs.Heads.{Begins};
+ghost use Rattle.std.specs.Prelude.{◌≡◌};
+ghost use Rattle.goo_desk_heads.specs.Heads.{Begins, HasBegun};
 
 use crate::fields::{body_length, sole_value};
 use crate::refusal::HeadFault;
 use httparse::Status;
-use httparse::spans::{EMPTY_HEADER_SPAN, parse_request};
+use httparse::spans::{EMPTY_HEADER_SPAN, Span, parse_request};
 
 /// The most bytes of a head.
 pub const MOST_HEAD: usize = 8_192;
@@ -13,42 +13,35 @@ pub const MOST_HEAD: usize = 8_192;
 /// The most fields in a head.
 pub const MOST_FIELDS: usize = 32;
 
-/// What a head asks for, and what came after it.
+/// What a head asks for, by where it stands among the bytes that begin with it. So it is told once,
+/// and not again of the bytes and more.
 #[derive(Clone, Copy, Drop)]
-pub struct Head<'b> {
-    /// The method.
-    pub method: &'b [u8],
-    /// The target.
-    pub target: &'b str,
-    /// The value of `GOO-Caller`, where that field is there once.
-    pub caller: Option<&'b [u8]>,
+pub struct Head {
+    /// Where the method is.
+    pub method: Span,
+    /// Where the target is.
+    pub target: Span,
+    /// Where the value of `GOO-Caller` is, where that field is there once.
+    pub caller: Option<Span>,
+    /// At how many bytes the head ends.
+    pub end: usize,
     /// How many bytes of body follow the head, or why it is refused.
     pub length: Result<u64, HeadFault>,
-    /// The bytes after the head.
-    pub rest: &'b [u8],
 }
 
 /// What bytes begin with.
 #[derive(Clone, Copy, Drop)]
-pub enum Front<'b> {
+pub enum Front {
     /// No head so far, and fewer bytes than a head may have.
     Unfinished,
     /// No head, whatever follows.
     Refused,
     /// This head.
-    Head(Head<'b>),
-}
-
-/// Bytes that are a text.
-fn text_of(bytes: &[u8]) -> &str
-    requires { IsUtf8 bytes.now }
-    ensures { result.now ≡ bytes.now }
-{
-    str::from_utf8(bytes).unwrap()
+    Head(Head),
 }
 
 /// What bytes begin with.
-pub fn front_of(bytes: &[u8]) -> Front<'_>
+pub fn front_of(bytes: &[u8]) -> Front
     ensures { Begins bytes.now result }
 {
     let mut headers = [EMPTY_HEADER_SPAN; MOST_FIELDS];
@@ -57,11 +50,11 @@ pub fn front_of(bytes: &[u8]) -> Front<'_>
         Ok(Status::Complete(head)) => {
             let fields = &headers[..head.headers];
             Front::Head(Head {
-                method: head.method.of(front),
-                target: text_of(head.path.of(front)),
+                method: head.method,
+                target: head.path,
                 caller: sole_value(front, fields, "goo-caller"),
+                end: head.len,
                 length: body_length(head.version, front, fields),
-                rest: &bytes[head.len..],
             })
         }
         Ok(Status::Partial) => {
@@ -72,5 +65,17 @@ pub fn front_of(bytes: &[u8]) -> Front<'_>
             }
         }
         Err(_) => Front::Refused,
+    }
+}
+
+/// What bytes begin with, where so much is known of fewer of them. A head is parsed once.
+pub fn front_after(known: Front, bytes: &[u8]) -> Front
+    requires { HasBegun bytes.now known }
+    ensures { Begins bytes.now result }
+{
+    match known {
+        Front::Unfinished => front_of(bytes),
+        Front::Refused => Front::Refused,
+        Front::Head(head) => Front::Head(head),
     }
 }

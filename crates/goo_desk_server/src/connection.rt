@@ -1,6 +1,7 @@
 //! Serving one connection.
 ghost use Rattle.std.specs.Prelude.{◌≡◌, ◌≢◌, IfOk, IfErr, IfSome};
 ghost use Rattle.std.specs.Io.KnownBytes.{Keeps};
+ghost use Rattle.goo_desk_heads.specs.Heads.{Begins};
 ghost use Rattle.goo_desk_answers.specs.Brought.{FindsLeft};
 ghost use Rattle.goo_desk_server.specs.ConnectionDurable.{FindsHeard, SendsFound};
 ghost use Rattle.goo_desk_server.specs.ConnectionServed.{Connects, Leaves, Sends, SendsPart};
@@ -19,6 +20,7 @@ use crate::reading::read_decided;
 use crate::serve_fault::ServeFault;
 use goo_desk_answers::answer_by_routes;
 use goo_desk_backend::Backend;
+use goo_desk_heads::Front;
 use goo_desk_responses::Status;
 use goo_desk_routes::Routes;
 use goo_files_streams::write_whole;
@@ -33,14 +35,16 @@ pub struct Served {
     pub status: Status,
 }
 
-/// Answers these bytes.
+/// Answers these bytes, which begin with what is known.
 fn serve_bytes<D: Backend, W: Write>(
     alloc: Global,
     routes: &Routes,
     desk: &mut D,
     bytes: &[u8],
+    front: &Front,
     writer: &mut W,
 ) -> Result<Served, ServeFault>
+    requires { Begins bytes.now front.now }
     ensures served { IfOk result
         (λ served. Sends D.shows D.imports D.begins (D.seen desk.old).state bytes.now served.status
         (D.seen desk.new) (W.contents writer.old) (W.contents writer.new)) }
@@ -70,7 +74,7 @@ fn serve_bytes<D: Backend, W: Write>(
     ensures shut { (D.seen desk.new).corruptions ≡ 0 → (D.seen desk.old).defects ≢ 0
         → FindsNoMore (D.leaves desk.old) (D.leaves desk.new) }
 {
-    match answer_by_routes(alloc, routes, desk, bytes) {
+    match answer_by_routes(alloc, routes, desk, bytes, front) {
         Ok(answer) => {
             write_whole(writer, &answer.bytes)?;
             Ok(Served {
@@ -78,13 +82,13 @@ fn serve_bytes<D: Backend, W: Write>(
             })
         }
         Err(Fault::Memory) => {
-            write_whole(writer, apology(bytes).as_str().as_bytes())?;
+            write_whole(writer, apology(bytes, front).as_str().as_bytes())?;
             Ok(Served {
                 status: Status::Unavailable,
             })
         }
         Err(Fault::Store) => {
-            let _ = write_whole(writer, apology(bytes).as_str().as_bytes());
+            let _ = write_whole(writer, apology(bytes, front).as_str().as_bytes());
             Err(ServeFault::Store)
         }
     }
@@ -146,8 +150,8 @@ pub fn serve_by_routes<D: Backend, R: Read, W: Write>(
     ensures shut { (D.seen desk.new).corruptions ≡ 0 → (D.seen desk.old).defects ≢ 0
         → FindsNoMore (D.leaves desk.old) (D.leaves desk.new) }
 {
-    let bytes = read_decided(alloc, reader)?;
-    serve_bytes(alloc, routes, desk, &bytes, writer)
+    let arrived = read_decided(alloc, reader)?;
+    serve_bytes(alloc, routes, desk, &arrived.bytes, &arrived.front, writer)
 }
 
 /// Makes the routes, reads a request until it is decided, and answers it. The caller closes the

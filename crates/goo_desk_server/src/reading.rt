@@ -1,11 +1,9 @@
 //! Reading a request until it is decided.
-ghost use Rattle.std.specs.Prelude.{◌≡◌, ◌<◌, ◌≤◌, ◌+◌, length, IfNone, IfOk, IfSome};
+ghost use Rattle.std.specs.Prelude.{IfOk};
+ghost use Rattle.goo_desk_heads.specs.Heads.{Begins};
 ghost use Rattle.goo_desk_server.specs.Reading.{StandsFor};
-ghost use Rattle.goo_desk_heads.specs.Fields.{most_body};
-ghost use Rattle.goo_desk_heads.specs.Heads.{most_head};
-ghost use Rattle.goo_desk_heads.specs.Requests.{IsSure};
 
-use goo_desk_heads::bytes_wanted;
+use goo_desk_heads::{Front, bytes_wanted, front_after};
 use goo_files_streams::{InputFault, read_some};
 use std::alloc::Global;
 use std::io::Read;
@@ -13,44 +11,41 @@ use std::io::Read;
 /// The most bytes of one read.
 const MOST_READ: usize = 4_096;
 
-/// At how many bytes what was read is looked at next, where that was so many before. `None` where
-/// it is decided.
-fn next_wanted(bytes: &[u8], wanted: usize) -> Option<usize>
-    requires { wanted ≤ most_head + most_body }
-    ensures sure { IfNone result (IsSure bytes.now) }
-    ensures later { IfSome result (λ next. length bytes.now < next) }
-    ensures small { IfSome result (λ next. next ≤ most_head + most_body) }
-{
-    if bytes.len() < wanted {
-        return Some(wanted);
-    }
-    bytes_wanted(bytes)
+/// What was read of a request, once it is decided.
+#[derive(Drop)]
+pub struct Arrived {
+    /// All of it.
+    pub bytes: Vec<u8>,
+    /// What it begins with.
+    pub front: Front,
 }
 
 /// Reads until what was read is decided, whatever the reader still has, or to its end. What was
 /// read comes to the same as all that the reader has.
 ///
 /// A body that is short is waited for, also where the target is unknown or the caller has no code.
-/// The head is parsed as its bytes come, and once more when all of the body is there.
+/// A head is parsed as its bytes come, and not again once it is there.
 ///
 /// # Errors
 ///
 /// `Read` where a read fails, `Memory` where there is no room. What was read up to then is lost.
-pub fn read_decided<R: Read>(alloc: Global, reader: &mut R) -> Result<Vec<u8>, InputFault>
-    ensures { IfOk result (λ bytes. StandsFor (R.remaining reader.old) bytes.items) }
+pub fn read_decided<R: Read>(alloc: Global, reader: &mut R) -> Result<Arrived, InputFault>
+    ensures stands { IfOk result
+        (λ arrived. StandsFor (R.remaining reader.old) arrived.bytes.items) }
+    ensures front { IfOk result (λ arrived. Begins arrived.bytes.items arrived.front) }
 {
     let mut bytes = Vec::new(alloc);
+    let mut front = Front::Unfinished;
     let mut chunk = [0u8; MOST_READ];
-    let mut wanted = 0;
-    while let Some(next) = next_wanted(&bytes, wanted) {
-        wanted = next;
+    while let Some(wanted) = bytes_wanted(&bytes, &front) {
         // Room for all of it at once: a body is copied once.
         bytes.reserve(wanted - bytes.len() + MOST_READ)?;
         let count = read_some(reader, &mut chunk)?;
         if count == 0 {
-            return Ok(bytes);
+            return Ok(Arrived { bytes, front });
         }
         bytes.extend_from_slice(&chunk[..count])?;
+        front = front_after(front, &bytes);
     }
-    Ok(bytes)
+    Ok(Arrived { bytes, front })
 }

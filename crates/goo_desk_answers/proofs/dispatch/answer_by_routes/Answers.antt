@@ -16,7 +16,7 @@ returns-clause-answered g c honest =
     let old = g.D.Desk.seen c.args.desk.now in
     let mid = g.D.Desk.seen c.probe.new.self in
     let new = g.D.Desk.seen c.answer_request.new.desk in
-    answered_after g.D.Backend.shows g.D.Backend.imports g.D.Backend.begins old.state mid.state new.state c.args.bytes.now (parts_seen c.read_request-request.result) c.read_request-request.ensures
+    answered_after g.D.Backend.shows g.D.Backend.imports g.D.Backend.begins old.state mid.state new.state c.args.bytes.now (parts_seen c.request_in-request.result) c.request_in-request.ensures
     (same_state old mid c.in_ok-probe.ensures.probes (c.answer_request.ensures.reliable.corruptions_stay honest)) c.answer_request.result (c.answer_request.ensures.answered honest)
 
 pub returns-clause-stopped : goal.returns-clause-stopped
@@ -24,7 +24,7 @@ returns-clause-stopped g c sure =
     let old = g.D.Desk.seen c.args.desk.now in
     let mid = g.D.Desk.seen c.probe.new.self in
     let new = g.D.Desk.seen c.answer_request.new.desk in
-    stopped_after g.D.Backend.shows g.D.Backend.imports g.D.Backend.begins old.state mid.state new.state c.args.bytes.now (parts_seen c.read_request-request.result) c.read_request-request.ensures
+    stopped_after g.D.Backend.shows g.D.Backend.imports g.D.Backend.begins old.state mid.state new.state c.args.bytes.now (parts_seen c.request_in-request.result) c.request_in-request.ensures
     (c.in_ok-probe.ensures.probes.same (c.answer_request.ensures.reliable.defects_stay sure)) c.answer_request.result (c.answer_request.ensures.stopped sure)
 
 pub returns-clause-reliable : goal.returns-clause-reliable
@@ -41,9 +41,9 @@ returns-clause-crash g c runs honest sure =
     let old = g.D.Desk.seen c.args.desk.now in
     let mid = g.D.Desk.seen c.probe.new.self in
     let leaves = g.D.Desk.leaves c.answer_request.new.desk in
-    let d = parts_seen c.read_request-request.result in
+    let d = parts_seen c.request_in-request.result in
     let late = c.answer_request.ensures.reliable.corruptions_stay honest in
-    bytes_led leaves old.state c.args.bytes.now d c.read_request-request.ensures
+    bytes_led leaves old.state c.args.bytes.now d c.request_in-request.ensures
     (subst (λ s. FindsLed leaves s (BringsIn MayBring d)) (same_state old mid c.in_ok-probe.ensures.probes late) (c.answer_request.ensures.crash runs honest (c.in_ok-probe.ensures.probes.works late)))
 
 -- an answer would show that there was no defect
@@ -57,9 +57,9 @@ returns-in_err-probe-clause-stopped g c sure =
     let old = g.D.Desk.seen c.args.desk.now in
     let new = g.D.Desk.seen c.probe.new.self in
     let failed : c.from_residual.result ≡ Err c.in_err-probe.field-0.0 = search rules in
-    let d = parts_seen c.read_request-request.result in
+    let d = parts_seen c.request_in-request.result in
     subst (λ r. OnErr r (Fails g.D.Backend.imports g.D.Backend.begins old.state c.args.bytes.now new.state)) (sym failed)
-    (d, c.read_request-request.ensures, stops_still g.D.Backend.imports g.D.Backend.begins old.state new.state d (c.in_err-probe.ensures.probes.same sure))
+    (d, c.request_in-request.ensures, stops_still g.D.Backend.imports g.D.Backend.begins old.state new.state d (c.in_err-probe.ensures.probes.same sure))
 
 pub returns-in_err-probe-clause-reliable : goal.returns-in_err-probe-clause-reliable
 returns-in_err-probe-clause-reliable g c =

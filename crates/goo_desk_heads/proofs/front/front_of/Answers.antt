@@ -1,7 +1,7 @@
-use Rattle.std.proofs.Common.{rules, ◌∙◌, ◌≤◌, length, arith, ap, drop}
-use Rattle.std.proofs.lemmas.List.{take_rest}
+use Rattle.std.proofs.Common.{rules, ◌∙◌, ◌≤◌, length, arith, take}
+use Rattle.httparse.specs.Spans.{IsWithin}
 use Rattle.goo_desk_heads.specs.Heads.{most_head}
-use Rattle.goo_desk_heads.proofs.HeadFacts.{head-found, no-head-in, no-head-ever}
+use Rattle.goo_desk_heads.proofs.HeadFacts.{head-found, no-head-in, no-head-ever, span-of-front, within-front, value-of-front, value-within-front}
 use Rattle.goo_desk_heads.proofs.front.front_of.Goals as goal
 
 pub returns-in-Ok-Complete : goal.returns-in-Ok-Complete
@@ -9,16 +9,24 @@ returns-in-Ok-Complete c =
     let made = rw c.in-Ok-Complete.field-0-is at c.in-Ok-Complete.ensures in
     let h = made.complete.0 in
     let at = made.complete.1 in
-    let bytes = c.args.bytes.now in (
+    let bytes = c.args.bytes.now in
+    let n = c.min.result in
+    let head = c.in-Ok-Complete.head in
+    let fits = made.within.section.len_fits in
+    let method : IsWithin (length (take n bytes)) head.method = (made.within.method.0, omega (arith, made.within.method.1, fits)) in
+    let target : IsWithin (length (take n bytes)) head.path = (made.within.path.0, omega (arith, made.within.path.1, fits)) in (
       h,
-      head-found bytes c.min.result c.parse_request.new.headers c.in-Ok-Complete.head h c.min.ensures (search rules) made.within at,
+      head-found bytes n c.parse_request.new.headers head h c.min.ensures (search rules) made.within at,
       record {
-        method = c.of.ensures ∙ at.method;
-        target = c.text_of.ensures ∙ (c.of-in-Ok-Complete.ensures ∙ at.path);
-        caller = rw (at.fields) at c.sole_value.ensures;
-        length = rw (at.fields, at.version) at c.body_length.ensures.value;
+        method_within = within-front bytes n head.method method;
+        target_within = within-front bytes n head.path target;
+        caller_within = value-within-front bytes n c.sole_value.result c.sole_value.ensures.within;
+        method = span-of-front bytes n head.method method ∙ at.method;
+        target = span-of-front bytes n head.path target ∙ at.path;
+        caller = value-of-front bytes n c.sole_value.result c.sole_value.ensures.within ∙ (rw (at.fields) at c.sole_value.ensures.value);
+        ends = at.len;
+        size = rw (at.fields, at.version) at c.body_length.ensures.value;
         few = c.body_length.ensures.few;
-        rest = take_rest bytes c.in-Ok-Complete.head.len ∙ ap (λ n. drop n bytes) at.len;
       },
     )
 
@@ -29,9 +37,3 @@ returns-else-bytes-lt-MOST_HEAD c =
 
 pub returns-in-Err : goal.returns-in-Err
 returns-in-Err c = no-head-ever c.args.bytes.now c.min.result c.in-Err.ensures.no_room
-
-pub text_of-requires : goal.text_of-requires
-text_of-requires c =
-    let made = rw c.in-Ok-Complete.field-0-is at c.in-Ok-Complete.ensures in
-    let at = made.complete.1 in
-    rw (c.of-in-Ok-Complete.ensures ∙ at.path) at.reads.0.target_text

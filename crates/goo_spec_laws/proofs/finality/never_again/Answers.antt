@@ -1,5 +1,5 @@
 use Rattle.goo_spec_laws.proofs.Lasting.{never_again}
-use Rattle.goo_spec_laws.proofs.never_again.Goals as goal
+use Rattle.goo_spec_laws.proofs.finality.never_again.Goals as goal
 
 pub returns : goal.returns
 returns c = never_again

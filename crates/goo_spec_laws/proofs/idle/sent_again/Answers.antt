@@ -1,5 +1,5 @@
 use Rattle.goo_spec_laws.proofs.Again.{again_is_idle, copies_are_idle}
-use Rattle.goo_spec_laws.proofs.sent_again.Goals as goal
+use Rattle.goo_spec_laws.proofs.idle.sent_again.Goals as goal
 
 pub returns-clause-at_once : goal.returns-clause-at_once
 returns-clause-at_once c = again_is_idle
