@@ -6,7 +6,7 @@ ghost use Rattle.sqlite.specs.Files.{image_of, HoldsDatabase};
 ghost use Rattle.sqlite.specs.Held.{state as view};
 ghost use Rattle.sqlite.specs.Tree.{Trees};
 ghost use Rattle.goo_spec.specs.Created.{created};
-ghost use Rattle.goo_store.specs.Versions.{state_held};
+ghost use Rattle.goo_store_opening.specs.Versions.{state_held};
 ghost use Rattle.goo_store_judge.specs.Moments.{moment};
 ghost use Rattle.goo_desk_server.specs.Runs.{KeepsPromise};
 ghost use Rattle.goo_cli_ending.specs.Endings.{status_of};

@@ -5,7 +5,7 @@ ghost use Rattle.std.specs.Io.Buffered.{writer_buffer, writer_contents};
 ghost use Rattle.std.specs.Io.KnownBytes.{Keeps};
 ghost use Rattle.sqlite.specs.Files.{image_of, HoldsDatabase};
 ghost use Rattle.sqlite.specs.Tree.{Trees};
-ghost use Rattle.goo_store.specs.Versions.{state_held};
+ghost use Rattle.goo_store_opening.specs.Versions.{state_held};
 ghost use Rattle.goo_files.specs.Texts.{IsStatement, IsAuditText};
 ghost use Rattle.goo_files.specs.Writes.{Wrote};
 ghost use Rattle.goo_cli_ending.specs.Endings.{status_of};

@@ -3,7 +3,7 @@ ghost use Rattle.std.specs.Prelude.{◌≡◌, IsTrue};
 ghost use Rattle.std.specs.Io.Buffered.{writer_contents};
 ghost use Rattle.sqlite.specs.Files.{image_of, HoldsDatabase};
 ghost use Rattle.sqlite.specs.Tree.{Trees};
-ghost use Rattle.goo_store.specs.Versions.{state_held};
+ghost use Rattle.goo_store_opening.specs.Versions.{state_held};
 ghost use Rattle.goo_cli.specs.Asked.{asked_by};
 ghost use Rattle.goo_cli_registry.specs.Closings.{HasSpareLog, IfRefused, IsClean, LeavesRegistry};
 ghost use Rattle.goo_cli_jobs.specs.Works.{asked_for, IsWorked};

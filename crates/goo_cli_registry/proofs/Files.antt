@@ -27,12 +27,12 @@ use Rattle.goo_tables_rows.specs.Stands.{defects, AreOurs, Holds, HoldsOurs}
 use Rattle.goo_spec.specs.Created.{created}
 use Rattle.goo_spec_tables.specs.Kept.{AreKept}
 use Rattle.goo_store.proofs.Created.{begun_kept, begun_state}
-use Rattle.goo_store.proofs.HeldLemmas.{held_first, version_first}
-use Rattle.goo_store.specs.FirstTables.{HoldsRenewed}
-use Rattle.goo_store.specs.Versions.{state_held}
+use Rattle.goo_store_opening.proofs.HeldLemmas.{held_first, version_first}
+use Rattle.goo_store_opening.specs.FirstTables.{HoldsRenewed}
+use Rattle.goo_store_opening.specs.Versions.{state_held}
 use Rattle.goo_spec_tables.proofs.RenewedLemmas.{renewed_state}
 use Rattle.goo_spec_tables.specs.Renewed.{renewed}
-use Rattle.goo_store.specs.Creating.{IsFirst, meta_of}
+use Rattle.goo_store_opening.specs.Creating.{IsFirst, meta_of}
 use Rattle.goo_types.specs.Day.{CalendarDay}
 use Rattle.goo_spec_tables.specs.States.{state_of}
 use Rattle.goo_store_judge.specs.Moments.{IsWell, OpensAs, StandFor, tables_in}

@@ -14,7 +14,7 @@ use Rattle.sqlite.specs.declared.file.Leftover.TheVariants as rest
 use Rattle.goo_spec.specs.State.{State}
 use Rattle.goo_tables_rows.specs.Rows.{tables_of}
 use Rattle.goo_store_judge.specs.Moments.{OpensAs}
-use Rattle.goo_store.specs.Versions.{state_held}
+use Rattle.goo_store_opening.specs.Versions.{state_held}
 use Rattle.goo_cli_disk.specs.Spare.{NeedNoLog}
 use Rattle.goo_cli_registry.specs.declared.closing.Left.{Left}
 use Rattle.goo_cli_registry.specs.declared.closing.Left.TheVariants as left

@@ -1,6 +1,6 @@
 //! What is told of a registry of version 1 before it becomes one of version 2.
 
-use goo_store::renewal::RenewalObserver;
+use goo_store_opening::renewal::RenewalObserver;
 use sqlite::{Alter, Connection};
 use std::io::Write;
 

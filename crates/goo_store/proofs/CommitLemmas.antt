@@ -27,10 +27,10 @@ use Rattle.goo_spec_tables.specs.Places.{rows_of}
 use Rattle.goo_store_plans.specs.Found.{IsBasisOf, IsNoBasis}
 use Rattle.goo_store_plans.specs.Planned.{IsPlanned}
 use Rattle.goo_store_plans.specs.declared.known_rows.KnownBasis.{KnownBasis}
-use Rattle.goo_store.proofs.Found.{no_basis}
-use Rattle.goo_store.proofs.Caching.{opened}
-use Rattle.goo_store.specs.Caching.{IsCacheOf, HoldsCache}
-use Rattle.goo_store.specs.declared.cache.Cache.{Cache}
+use Rattle.goo_store_pieces.proofs.Found.{no_basis}
+use Rattle.goo_store_pieces.proofs.Caching.{opened}
+use Rattle.goo_store_pieces.specs.Caching.{IsCacheOf, HoldsCache}
+use Rattle.goo_store_pieces.specs.declared.cache.Cache.{Cache}
 use Rattle.std.specs.Prelude.{is_ok}
 use Rattle.goo_spec_tables.specs.States.{state_of}
 use Rattle.goo_store_values.specs.Telling.{PassesOn, Tells}

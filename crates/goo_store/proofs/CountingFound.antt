@@ -11,8 +11,8 @@ use Rattle.goo_types.specs.Number.{code_of, is_number, serial_of}
 use Rattle.goo_spec_tables.specs.Kept.{AreKept}
 use Rattle.goo_spec_tables.specs.Places.{piece_of, rows_of}
 use Rattle.goo_spec_tables.specs.Readable.{reads, are_ends, is_code, is_piece}
-use Rattle.goo_store.specs.Reading.{IsReadablePiece}
-use Rattle.goo_store.proofs.RowsRead.{each_beside, pieces_kept, unmapped}
+use Rattle.goo_store_pieces.specs.Reading.{IsReadablePiece}
+use Rattle.goo_store_pieces.proofs.RowsRead.{each_beside, pieces_kept, unmapped}
 use Rattle.goo_store_audit.specs.Counting.{AreCountable, rows_from}
 use Rattle.goo_store_audit.proofs.CountingLemmas.{begins, from_first, spaced, to_last}
 use Rattle.goo_store_audit.proofs.Paging.{IsSpacedFrom, from_spaced, taken_spaced}

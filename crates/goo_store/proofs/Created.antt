@@ -13,7 +13,7 @@ use Rattle.goo_tables_rows.specs.Stands.{Stands, Settled, defects}
 use Rattle.goo_tables_rows.proofs.Catalogued.{ours_of}
 use Rattle.goo_tables_rows.proofs.Decoded.{decoded}
 use Rattle.goo_tables_accounts.specs.Changes.{begun}
-use Rattle.goo_store.specs.Creating.{meta_of, IsFirst}
+use Rattle.goo_store_opening.specs.Creating.{meta_of, IsFirst}
 use Rattle.goo_spec_tables.specs.Kept.{AreKept}
 use Rattle.goo_store_judge.specs.Moments.{IsWell, tables_in}
 use Rattle.goo_spec_tables.specs.Places.{rows_of}

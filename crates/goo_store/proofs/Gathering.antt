@@ -13,7 +13,7 @@ use Rattle.goo_store_plans.specs.StoreFaults.{BlamesDisk}
 use Rattle.goo_store_plans.specs.declared.known_rows.KnownRows.{KnownRows}
 use Rattle.goo_store_values.specs.declared.statement_fault.StatementFault.{StatementFault}
 use Rattle.goo_store_values.specs.declared.statement_fault.StatementFault.TheVariants.{Memory, Refused}
-use Rattle.goo_store.specs.Found.{Knows}
+use Rattle.goo_store_pieces.specs.Found.{Knows}
 use Rattle.goo_store.specs.Gathering.{BlamesCommit, HaveWhatItNeeds}
 use Rattle.goo_store_judge.specs.Holding.{is_sure}
 use Rattle.goo_store_judge.specs.Moments.{tables_in, IsWell}

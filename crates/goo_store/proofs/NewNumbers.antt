@@ -26,8 +26,8 @@ use Rattle.goo_spec_tables.specs.States.{state_of}
 use Rattle.goo_store_plans.specs.Found.{IsRowOf}
 use Rattle.goo_store_judge.proofs.Judging.{rows_fit}
 use Rattle.goo_store.specs.Issuing.{IsIssuedNext}
-use Rattle.goo_store.specs.Reading.{IsReadablePiece}
-use Rattle.goo_store.proofs.RowsRead.{pieces_kept}
+use Rattle.goo_store_pieces.specs.Reading.{IsReadablePiece}
+use Rattle.goo_store_pieces.proofs.RowsRead.{pieces_kept}
 
 -- whether a row begins in the range or right after it
 abbrev pub within : Numbers → Piece → Bool

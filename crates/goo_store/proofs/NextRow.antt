@@ -26,14 +26,14 @@ use Rattle.goo_spec_tables.proofs.Expiring.{expiring_found}
 use Rattle.goo_spec_tables.proofs.Known.{number_is}
 use Rattle.goo_spec_tables.proofs.RowsFound.{next_found as found_in, place_account}
 use Rattle.goo_store_values.proofs.RowsRead.{found_row}
-use Rattle.goo_store.specs.Reading.{IsReadablePiece}
+use Rattle.goo_store_pieces.specs.Reading.{IsReadablePiece}
 use Rattle.goo_core_shelf.specs.Sought.{is_sought}
 use Rattle.goo_core_shelf.specs.declared.sought.Sought.{Sought}
 use Rattle.goo_core_shelf.specs.declared.sought.Sought.TheVariants.{Naming, Expiring}
-use Rattle.goo_store.specs.NextRows.{begins_beyond, IsDated, reaching_beyond}
-use Rattle.goo_store.proofs.Next.{first_beyond, next_found}
-use Rattle.goo_store.proofs.RowsRead.{pieces_kept}
-use Rattle.goo_store.proofs.Edges.{edge_found}
+use Rattle.goo_store_pieces.specs.NextRows.{begins_beyond, IsDated, reaching_beyond}
+use Rattle.goo_store_pieces.proofs.Next.{first_beyond, next_found}
+use Rattle.goo_store_pieces.proofs.RowsRead.{pieces_kept}
+use Rattle.goo_store_pieces.proofs.Edges.{edge_found}
 use Rattle.goo_store_judge.proofs.Looking.{before, so_still}
 use Rattle.goo_store_judge.specs.Holding.{sure}
 use Rattle.goo_store_judge.specs.Moments.{tables_in, IsWell}

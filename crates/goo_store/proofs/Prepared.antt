@@ -14,7 +14,7 @@ use Rattle.goo_store_plans.specs.Carried.{AreInOrder}
 use Rattle.goo_store_plans.specs.LookingUp.{LooksUp, IsOurs}
 use Rattle.goo_store_judge.specs.Moments.{tables_in, count, moment, IsWell}
 use Rattle.goo_store_plans.specs.Found.{AreInTables}
-use Rattle.goo_store.specs.Found.{Knows}
+use Rattle.goo_store_pieces.specs.Found.{Knows}
 use Rattle.goo_store.specs.Preparing.{Prepares}
 use Rattle.goo_store_values.specs.Telling.{Tells}
 use Rattle.goo_store_plans.specs.declared.known_rows.KnownRows.{KnownRows}

@@ -1,14 +1,5 @@
-pub mod Found
-pub mod Ahead
-pub mod Caching
-pub mod Reading
-pub mod Near
-pub mod Creating
 pub mod Preparing
 pub mod Gathering
-pub mod NextRows
-pub mod FirstTables
-pub mod Versions
 pub mod Issuing
 pub mod Seen
 pub mod Opened

@@ -1,8 +1,7 @@
 -- What opening the registry of a database promises.
-use Rattle.std.specs.Prelude.{◌≡◌, ◌⊎◌, None, IsTrue}
+use Rattle.std.specs.Prelude.{◌≡◌, ◌⊎◌, IsTrue}
 use Rattle.sqlite_trees.specs.declared.store.Store.{Ghosts}
 use Rattle.sqlite.specs.State.{State, HasCleanDisk}
-use Rattle.sqlite.specs.Tree.{Trees}
 use Rattle.goo_core_shelf.specs.Shelf.{IsReady}
 use Rattle.goo_ranges_rows.specs.Rows.{AreRowsOf}
 use Rattle.goo_spec.specs.Runs.{IsApart}
@@ -12,17 +11,13 @@ use Rattle.goo_spec_tables.specs.Kept.{AreKept, AreKeptIn}
 use Rattle.goo_spec_tables.specs.Renewed.{renewed}
 use Rattle.goo_spec_tables.specs.States.{state_of}
 use Rattle.goo_store_judge.specs.Moments.{OpensAsEither}
-use Rattle.goo_store_judge.specs.Opening.{BlamesOpening, IsRefusal, IsRefusalIn}
-use Rattle.goo_store_open.specs.Foreign.{LacksMeta, TellsVersion}
-use Rattle.goo_store_open.specs.Found.{IsOutside}
-use Rattle.goo_store_open.specs.declared.fault.OpenFault.{OpenFault}
-use Rattle.goo_tables_rows.specs.Columns.{registry_schema, first_schema}
+use Rattle.goo_tables_rows.specs.Columns.{first_schema}
 use Rattle.goo_tables_rows.specs.First.{IsFirst}
 use Rattle.goo_tables_rows.specs.Rows.{Tables}
 use Rattle.goo_tables_rows.specs.Stands.{Stands, Rests, Settled}
-use Rattle.goo_store.specs.FirstTables.{HoldsRenewed}
+pub use Rattle.goo_store_opening.specs.Settled.{IsNotOpened}
 use Rattle.goo_store.specs.Seen.{database_of, seen_by}
-use Rattle.goo_store.specs.Versions.{state_held}
+use Rattle.goo_store_opening.specs.Versions.{state_held}
 use Rattle.goo_store.specs.declared.sql_shelf.SqlShelf.{SqlShelf}
 
 -- a shelf that was opened over a database
@@ -51,26 +46,3 @@ pub record IsOpened {S : Type 0} {g : Ghosts S} (before : State) (shelf : SqlShe
   pub clean : HasCleanDisk (database_of shelf) → HasCleanDisk before
   -- what a crash left of a registry, which opens as one of two states, is opened as one of them
   pub again : IsTrue before.is_open → (s t : registry.State) → OpensAsEither before.now.trees s t → (seen_by shelf).defects ≡ 0 → ((seen_by shelf).state ≡ s) ⊎ ((seen_by shelf).state ≡ t)
-
--- a database over which no registry was opened, and the word for it
-pub record IsNotOpened (before after : State) (fault : OpenFault) : Type 0 where
-  -- tables of version 2 that keep the rules are refused for want of memory or a fault of the store alone
-  pub refused : HasCleanDisk after → before.step_limit ≡ None → (t : Tables) → Stands before.now t → AreKept t → IsOutside fault
-  -- the word for tables of version 2
-  pub words : HasCleanDisk after → before.step_limit ≡ None → (t : Tables) → Stands before.now t → IsRefusal t fault
-  -- and for those of version 1
-  pub old_words : HasCleanDisk after → before.step_limit ≡ None → (t : Tables) → IsFirst before.now t → IsRefusalIn 1 t fault
-  -- the version is told of other tables
-  pub version : (before.now.schema ≡ registry_schema → ⊥) → (before.now.schema ≡ first_schema → ⊥) → (LacksMeta before.now.schema → ⊥) → HasCleanDisk after → TellsVersion before after fault
-  -- a fault of the store is told only where the disk failed
-  pub blames : before.now.schema ≡ registry_schema → BlamesOpening before after fault
-  -- what the database holds stays
-  pub unchanged : HasCleanDisk after → Rests before after
-  -- no corruption by the disk is forgotten
-  pub clean_before : HasCleanDisk after → HasCleanDisk before
-  -- a crash finds what it would have found
-  pub crash : (before.now.schema ≡ first_schema → ⊥) → HasCleanDisk after → (db : Trees) → after.may_leave db → before.may_leave db
-  -- or version 1 renewed
-  pub left : HasCleanDisk after → (db : Trees) → after.may_leave db → before.may_leave db ⊎ HoldsRenewed before.now db
-  -- what a crash left of a registry is never told as something else
-  pub never_foreign : IsTrue before.is_open → before.step_limit ≡ None → (s t : registry.State) → OpensAsEither before.now.trees s t → HasCleanDisk after → IsOutside fault

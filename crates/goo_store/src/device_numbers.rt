@@ -10,7 +10,7 @@ ghost use Rattle.goo_core_shelf.specs.Maps.{map_of};
 ghost use Rattle.goo_core_shelf.specs.Shelf.{Looks};
 ghost use Rattle.goo_spec_tables.specs.Devices.{device_entry};
 ghost use Rattle.goo_spec_tables.specs.Readable.{is_device};
-ghost use Rattle.goo_store.specs.Reading.{AreReadableDevices};
+ghost use Rattle.goo_store_pieces.specs.Reading.{AreReadableDevices};
 ghost use Rattle.goo_store_values.specs.Passing.{Accepts, Passes};
 ghost use Rattle.goo_store_values.specs.declared.statement_fault.StatementFault.TheVariants.{Memory};
 ghost use Rattle.goo_store.specs.Seen.{Blames, seen_by};

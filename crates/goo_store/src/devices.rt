@@ -4,7 +4,7 @@ ghost use Rattle.std.specs.Prelude.{◌≡◌, pos, is_ok, Some, IfOk, IfSome, I
 ghost use Rattle.std.specs.Prelude.{string_bytes};
 ghost use Rattle.goo_tables_rows.specs.Rows.{device_in};
 ghost use Rattle.goo_spec_tables.specs.Devices.{device_of, progress_in, record_in};
-ghost use Rattle.goo_store.specs.Found.{KeepsDevice};
+ghost use Rattle.goo_store_pieces.specs.Found.{KeepsDevice};
 ghost use Rattle.goo_spec_tables.specs.Readable.{is_device, is_maybe_day};
 ghost use Rattle.goo_store_values.specs.Passing.{Accepts, Passes};
 ghost use Rattle.goo_spec_tables.specs.Texts.{day_of};

@@ -2,19 +2,15 @@
 #![tactic(auto)]
 
 mod accounts;
-mod ahead;
-mod cache;
 mod cancellations;
 mod commits;
 mod correctable;
 mod corrections;
-mod creating;
 mod declarations;
 mod device_numbers;
 mod devices;
 mod held;
 mod issuing;
-mod kept_lots;
 mod kept_registry_row;
 mod lots;
 mod lowering;
@@ -23,11 +19,8 @@ mod next_rows;
 mod notices;
 pub mod opening;
 mod peers;
-mod pieces;
 mod receipts;
 mod registry_row;
-pub mod renewal;
-mod renewing;
 mod rows;
 mod shelf;
 pub mod sql_shelf;

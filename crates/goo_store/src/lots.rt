@@ -2,13 +2,13 @@
 
 ghost use Rattle.std.specs.Prelude.{◌≡◌, IfOk, IfSome, IsOkUnless, option_map};
 ghost use Rattle.goo_tables_rows.specs.Rows.{lot_in};
-ghost use Rattle.goo_store.specs.Found.{KeepsLot, KeepsRow};
+ghost use Rattle.goo_store_pieces.specs.Found.{KeepsLot, KeepsRow};
 ghost use Rattle.goo_spec_tables.specs.Places.{lot_of};
 ghost use Rattle.goo_store_values.specs.Reading.{IsReadableLot};
 ghost use Rattle.goo_store_values.specs.Passing.{Accepts, Passes};
 ghost use Rattle.goo_store_values.specs.declared.statement_fault.StatementFault.TheVariants.{Memory};
 
-use crate::kept_lots::keep_lot;
+use goo_store_pieces::kept_lots::keep_lot;
 use goo_store_plans::lot_numbers::NumberedLot;
 use goo_store_values::lots::read_lot;
 use goo_store_values::statement_fault::StatementFault;

@@ -13,10 +13,10 @@ ghost use Rattle.goo_tables_rows.specs.Readable.{joined_readable};
 ghost use Rattle.goo_tables_rows.specs.Refused.{FailsOnlyByFault};
 ghost use Rattle.goo_tables_rows.specs.Stands.{Looks};
 ghost use Rattle.goo_core_shelf.specs.declared.sought.Sought.TheVariants.{Naming};
-ghost use Rattle.goo_store.specs.NextRows.{begins_beyond, IsDated, reaching_beyond};
+ghost use Rattle.goo_store_pieces.specs.NextRows.{begins_beyond, IsDated, reaching_beyond};
 
-use crate::pieces::is_beyond;
 use goo_core_shelf::sought::{Sought, is_sought};
+use goo_store_pieces::pieces::is_beyond;
 use goo_store_plans::known_rows::Edges;
 use goo_store_values::statement_fault::StatementFault;
 use goo_tables_accounts::joined::{next_expiring, next_of_account, page_of_account};

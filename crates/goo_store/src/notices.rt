@@ -5,7 +5,7 @@ ghost use Rattle.goo_tables_rows.specs.Rows.{notice_out_in, notice_in_in};
 ghost use Rattle.goo_core_shelf.specs.Shelf.{arrival_of};
 ghost use Rattle.goo_spec_tables.specs.Records.{sent_of, arrived_of};
 ghost use Rattle.goo_spec_tables.specs.Readable.{is_notice_in};
-ghost use Rattle.goo_store.specs.Reading.{IsReadableSent};
+ghost use Rattle.goo_store_pieces.specs.Reading.{IsReadableSent};
 ghost use Rattle.goo_store_values.specs.Passing.{Accepts, Passes};
 
 use goo_core_shelf::found::Arrival;

@@ -8,14 +8,10 @@ ghost use Rattle.goo_tables_rows.specs.Stands.{defects};
 ghost use Rattle.goo_store_open.specs.Foreign.{LacksMeta, IsForeignWord};
 ghost use Rattle.goo_store.specs.Opened.{IsOpened, IsNotOpened};
 
-use crate::renewal::{NoObserver, RenewalObserver};
-use crate::renewing::renew;
 use crate::sql_shelf::SqlShelf;
-use goo_store_judge::judge::judge;
 use goo_store_open::fault::OpenFault;
-use goo_store_open::foreign::foreign_fault;
-use goo_store_open::layout::Layout;
-use goo_store_open::our_schema::{has_first_schema, has_our_schema};
+use goo_store_opening::renewal::{NoObserver, RenewalObserver};
+use goo_store_opening::settling::settle;
 use sqlite::{Alter, Connection};
 use std::alloc::Global;
 
@@ -81,20 +77,8 @@ impl<S: Alter> SqlShelf<S> {
         ensures outside { IfErr result (λ e. e.0.in_transaction ≡ false) }
     {
         let mut conn = conn;
-        let _settled = conn.is_autocommit();
-        let _known = conn.schema();
-        if has_first_schema(&conn) {
-            return match renew(alloc, &mut conn, observer) {
-                Ok(()) => Ok(SqlShelf::over(alloc, conn)),
-                Err(fault) => Err((conn, fault)),
-            };
-        }
-        if !has_our_schema(&conn) {
-            let fault = foreign_fault(&mut conn);
-            return Err((conn, fault));
-        }
-        match judge(alloc, &mut conn, Layout::Ours) {
-            Ok(_pieces) => Ok(SqlShelf::over(alloc, conn)),
+        match settle(alloc, &mut conn, observer) {
+            Ok(()) => Ok(SqlShelf::over(alloc, conn)),
             Err(fault) => Err((conn, fault)),
         }
     }

@@ -6,7 +6,7 @@ ghost use Rattle.goo_tables_rows.specs.Rows.{Tables, meta_in};
 ghost use Rattle.goo_core_shelf.specs.Counters.{counters_of};
 ghost use Rattle.goo_core_shelf.specs.Meta.{meta_of};
 ghost use Rattle.goo_core_shelf.specs.Shelf.{Looks};
-ghost use Rattle.goo_store.specs.Found.{KeepsFound};
+ghost use Rattle.goo_store_pieces.specs.Found.{KeepsFound};
 ghost use Rattle.goo_store_plans.specs.Found.{IsRowOf};
 ghost use Rattle.goo_store_values.specs.Passing.{Accepts, Passes};
 ghost use Rattle.goo_spec_tables.specs.Readable.{is_meta};

@@ -13,11 +13,11 @@ ghost use Rattle.goo_store_plans.specs.Found.{IsEdge};
 ghost use Rattle.goo_tables_rows.specs.Stands.{defects};
 ghost use Rattle.goo_store.specs.Seen.{Blames, database_of, seen_by};
 
-use crate::ahead::read_page;
 use crate::next_rows::{ask_next, ask_page, edges_after, ends_clear, is_clear, reaching_row};
-use crate::pieces::{alone, read_beyond, read_maybe, read_rising};
 use crate::sql_shelf::SqlShelf;
 use goo_core_shelf::sought::Sought;
+use goo_store_pieces::ahead::read_page;
+use goo_store_pieces::pieces::{alone, read_beyond, read_maybe, read_rising};
 use goo_store_values::noting::note_fault;
 use goo_tables_accounts::joined::{piece_before, pieces_beginning};
 use goo_types::account_no::AccountNo;

@@ -1,10 +1,8 @@
 //! The shelf over tables as a shelf: each look-up asks one statement or none, and reads its rows.
 
-use crate::cache::keep_account;
 use crate::commits::{ending, known_after};
 use crate::issuing::is_issued_next;
 use crate::kept_registry_row::{copied, row_after};
-use crate::pieces::{alone, ending_behind, join_near, read_rising};
 use crate::sql_shelf::SqlShelf;
 use crate::{accounts, cancellations, devices, held, lots, notices, peers, receipts};
 use goo_core_shelf::account::Account;
@@ -19,6 +17,8 @@ use goo_core_shelf::shelf::Shelf;
 use goo_core_shelf::sought::Sought;
 use goo_store_changes::committing::commit_changes;
 use goo_store_judge::holders;
+use goo_store_pieces::cache::keep_account;
+use goo_store_pieces::pieces::{alone, ending_behind, join_near, read_rising};
 use goo_store_values::noting::note_fault;
 use goo_tables::cancellation::find_cancellation;
 use goo_tables::device::find_device;

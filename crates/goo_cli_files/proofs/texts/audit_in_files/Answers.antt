@@ -1,7 +1,7 @@
 use Rattle.std.proofs.Common.{◌≡◌, subst, sym}
 use Rattle.sqlite.specs.Files.{file_state}
 use Rattle.sqlite_trees.specs.View.{doubt}
-use Rattle.goo_store.specs.Versions.{state_held}
+use Rattle.goo_store_opening.specs.Versions.{state_held}
 use Rattle.goo_store_judge.specs.Moments.{moment}
 use Rattle.goo_files.specs.Texts.{IsAuditText}
 use Rattle.sqlite_wal.specs.Reads.{AreClean}

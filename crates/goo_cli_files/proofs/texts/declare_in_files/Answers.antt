@@ -3,7 +3,7 @@ use Rattle.sqlite.specs.Files.{file_state}
 use Rattle.sqlite_trees.specs.View.{doubt}
 use Rattle.sqlite_wal.specs.Reads.{AreClean}
 use Rattle.goo_spec.specs.Sound.{IsSound}
-use Rattle.goo_store.specs.Versions.{state_held}
+use Rattle.goo_store_opening.specs.Versions.{state_held}
 use Rattle.goo_store_judge.specs.Moments.{moment}
 use Rattle.goo_registry.specs.Desks.{seen_of}
 use Rattle.goo_cli_registry.specs.Closings.{HoldState, IfWhole, IsKept}

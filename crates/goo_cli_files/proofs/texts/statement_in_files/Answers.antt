@@ -2,7 +2,7 @@ use Rattle.std.proofs.Common.{◌≡◌, None, subst, sym}
 use Rattle.std.specs.FinMap.{get}
 use Rattle.sqlite.specs.Files.{file_state}
 use Rattle.sqlite_trees.specs.View.{doubt}
-use Rattle.goo_store.specs.Versions.{state_held}
+use Rattle.goo_store_opening.specs.Versions.{state_held}
 use Rattle.goo_store_judge.specs.Moments.{moment}
 use Rattle.goo_files.specs.Texts.{IsStatement}
 use Rattle.sqlite_wal.specs.Reads.{AreClean}

@@ -1,4 +1,4 @@
-use Rattle.goo_store.specs.Versions.{state_held}
+use Rattle.goo_store_opening.specs.Versions.{state_held}
 use Rattle.goo_cli_jobs.proofs.WorkLemmas.{answered, audited, imported, served, stated}
 use Rattle.goo_cli_jobs.proofs.work.work_in_files.Goals as goal
 

@@ -1,7 +1,7 @@
 use Rattle.std.proofs.Common.{arith}
 use Rattle.std.proofs.lemmas.Result.{IfErr-weaker}
 use Rattle.sqlite.specs.Held.{state as view}
-use Rattle.goo_store.specs.Creating.{IsFirst}
+use Rattle.goo_store_opening.specs.Creating.{IsFirst}
 use Rattle.goo_cli_registry.proofs.Files.{begun_or}
 use Rattle.goo_cli_registry.proofs.opening.begin.Goals as goal
 

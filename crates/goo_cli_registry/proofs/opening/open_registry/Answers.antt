@@ -1,7 +1,7 @@
 use Rattle.std.proofs.Common.{◌∙◌, ap, sym, subst}
 use Rattle.sqlite.specs.Effect.{Database}
 use Rattle.sqlite.specs.Files.{file_state}
-use Rattle.goo_store.specs.Versions.{state_held}
+use Rattle.goo_store_opening.specs.Versions.{state_held}
 use Rattle.goo_store_judge.specs.Holding.{sure}
 use Rattle.goo_store_judge.specs.Moments.{OpensAsEither}
 use Rattle.sqlite.specs.Tree.{Trees}

@@ -1,5 +1,5 @@
 use Rattle.std.proofs.Common.{rules}
-use Rattle.goo_store.proofs.Found.{kept_row}
+use Rattle.goo_store_pieces.proofs.Found.{kept_row}
 use Rattle.goo_store.proofs.lots.read_found.Goals as goal
 
 pub returns-in_err-read_kept-in-Some-clause-kept : goal.returns-in_err-read_kept-in-Some-clause-kept

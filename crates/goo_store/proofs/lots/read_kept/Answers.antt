@@ -1,4 +1,4 @@
-use Rattle.goo_store.proofs.Found.{row_states}
+use Rattle.goo_store_pieces.proofs.Found.{row_states}
 use Rattle.goo_store.proofs.lots.read_kept.Goals as goal
 
 pub returns-in_err-keep_lot-clause-kept : goal.returns-in_err-keep_lot-clause-kept

@@ -6,7 +6,7 @@ use Rattle.std.specs.Ordering.{int_eq}
 use Rattle.goo_core_shelf.specs.declared.sought.Sought.TheVariants.{Naming}
 use Rattle.goo_tables_rows.specs.Beside.{joined_in, pieces_beside}
 use Rattle.goo_tables_rows.specs.Stands.{Looks}
-use Rattle.goo_store.specs.NextRows.{begins_beyond}
+use Rattle.goo_store_pieces.specs.NextRows.{begins_beyond}
 use Rattle.goo_store.proofs.next_rows.ask_next.Goals as goal
 
 pub returns-in-Naming-clause-looks : goal.returns-in-Naming-clause-looks

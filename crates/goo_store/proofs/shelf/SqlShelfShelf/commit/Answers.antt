@@ -7,9 +7,9 @@ use Rattle.goo_store_plans.specs.Found.{IsBasisOf, IsRowOf}
 use Rattle.goo_store_plans.specs.Planned.{IsPlanned}
 use Rattle.goo_store.proofs.CommitBlamed.{blamed, blamed_before}
 use Rattle.goo_store.proofs.CommitLemmas.{basis_after, lasts_after, so_after, well_after, committed}
-use Rattle.goo_store.proofs.Found.{known_after}
+use Rattle.goo_store_pieces.proofs.Found.{known_after}
 use Rattle.goo_store.proofs.CommitsAfter.{not_refused, not_committed, as_err, fits_still, commits_after}
-use Rattle.goo_store.specs.Caching.{IsCacheOf}
+use Rattle.goo_store_pieces.specs.Caching.{IsCacheOf}
 use Rattle.goo_tables_rows.specs.Rows.{Tables}
 use Rattle.goo_store.proofs.shelf.SqlShelfShelf.commit.Goals as goal
 

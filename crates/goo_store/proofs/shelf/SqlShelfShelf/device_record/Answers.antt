@@ -11,13 +11,13 @@ use Rattle.goo_spec_tables.specs.Devices.{device_of, progress_in, record_in}
 use Rattle.goo_spec_tables.proofs.Known.{known_kept, text_test}
 use Rattle.goo_spec_tables.specs.States.{state_of}
 use Rattle.goo_store_judge.proofs.Looking.{looked, refused_look, well}
-use Rattle.goo_store.proofs.Found.{device_known}
+use Rattle.goo_store_pieces.proofs.Found.{device_known}
 use Rattle.goo_store_judge.proofs.Blaming.{blames, refused_blames}
 use Rattle.goo_store_values.proofs.RowsRead.{found_part, each_so}
 use Rattle.goo_spec_tables.specs.Readable.{is_device}
 use Rattle.goo_tables_rows.specs.Rows.{device_in}
 use Rattle.goo_store_judge.specs.Moments.{tables_in}
-use Rattle.goo_store.proofs.Caching.{lasts_on}
+use Rattle.goo_store_pieces.proofs.Caching.{lasts_on}
 use Rattle.goo_store.proofs.shelf.SqlShelfShelf.device_record.Goals as goal
 
 -- a row tells of the device that the state has, and of its progress

@@ -1,7 +1,7 @@
 use Rattle.std.proofs.Common.{sym, subst}
 use Rattle.goo_store_plans.specs.Found.{AreInTables}
 use Rattle.sqlite.specs.Held.{state as view}
-use Rattle.goo_store.proofs.Caching.{lasts_unanswered}
+use Rattle.goo_store_pieces.proofs.Caching.{lasts_unanswered}
 use Rattle.goo_store.proofs.shelf.SqlShelfShelf.holder.Goals as goal
 
 pub invariant_of-self : goal.invariant_of-self

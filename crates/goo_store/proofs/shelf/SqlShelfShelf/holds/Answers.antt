@@ -2,10 +2,10 @@ use Rattle.std.proofs.Common.{◌∙◌}
 use Rattle.sqlite.specs.Held.{state as view}
 use Rattle.goo_store_judge.specs.Moments.{tables_in}
 use Rattle.goo_store_judge.proofs.Looking.{looked, refused_look, well}
-use Rattle.goo_store.proofs.Found.{known}
+use Rattle.goo_store_pieces.proofs.Found.{known}
 use Rattle.goo_store.proofs.HeldFound.{held_found}
 use Rattle.goo_store_judge.proofs.Blaming.{blames, refused_blames}
-use Rattle.goo_store.proofs.Caching.{lasts_on}
+use Rattle.goo_store_pieces.proofs.Caching.{lasts_on}
 use Rattle.goo_store.proofs.shelf.SqlShelfShelf.holds.Goals as goal
 
 pub returns-then-self-clause-looks : goal.returns-then-self-clause-looks

@@ -9,13 +9,13 @@ use Rattle.goo_spec_tables.specs.Places.{lot_of}
 use Rattle.goo_spec_tables.proofs.Known.{known_row, lot_test}
 use Rattle.goo_spec_tables.specs.States.{state_of}
 use Rattle.goo_store_judge.proofs.Looking.{looked, refused_look, well}
-use Rattle.goo_store.proofs.Found.{lot_known}
+use Rattle.goo_store_pieces.proofs.Found.{lot_known}
 use Rattle.goo_store_judge.proofs.Blaming.{blames, refused_blames}
 use Rattle.goo_store_values.proofs.RowsRead.{found_row, lots_kept}
 use Rattle.goo_tables_rows.specs.Rows.{lot_in}
 use Rattle.goo_store_values.specs.Reading.{IsReadableLot}
 use Rattle.goo_store_judge.specs.Moments.{tables_in}
-use Rattle.goo_store.proofs.Caching.{lasts_on}
+use Rattle.goo_store_pieces.proofs.Caching.{lasts_on}
 use Rattle.goo_store.proofs.shelf.SqlShelfShelf.lot.Goals as goal
 
 pub returns-then-self-clause-looks : goal.returns-then-self-clause-looks

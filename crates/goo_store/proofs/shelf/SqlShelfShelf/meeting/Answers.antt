@@ -7,10 +7,10 @@ use Rattle.goo_spec_tables.specs.Places.{rows_of}
 use Rattle.goo_core_shelf.proofs.Looking.{looked_or_full, ready_after, still}
 use Rattle.goo_store_judge.proofs.Looking.{failed_then, looked_both}
 use Rattle.goo_store_judge.proofs.Blaming.{blamed_then, blamed_both, blamed_err}
-use Rattle.goo_store.proofs.RowsRead.{near_rises}
+use Rattle.goo_store_pieces.proofs.RowsRead.{near_rises}
 use Rattle.goo_store_judge.specs.Holding.{safe}
 use Rattle.goo_store.proofs.NewNumbers.{none_issued, within}
-use Rattle.goo_store.proofs.Merging.{near_alone, near_found}
+use Rattle.goo_store_pieces.proofs.Merging.{near_alone, near_found}
 use Rattle.goo_store.proofs.shelf.SqlShelfShelf.meeting.Goals as goal
 
 pub returns-in_err-later-clause-looks : goal.returns-in_err-later-clause-looks

@@ -2,7 +2,7 @@ use Rattle.sqlite.specs.Held.{state as view}
 use Rattle.goo_store_judge.specs.Moments.{tables_in}
 use Rattle.goo_store_judge.proofs.Looking.{refused_look}
 use Rattle.goo_store_judge.proofs.Blaming.{refused_blames}
-use Rattle.goo_store.proofs.Caching.{kept_blames, kept_look}
+use Rattle.goo_store_pieces.proofs.Caching.{kept_blames, kept_look}
 use Rattle.goo_store.proofs.shelf.SqlShelfShelf.next_of.Goals as goal
 
 pub returns-then-self-clause-looks : goal.returns-then-self-clause-looks

@@ -6,9 +6,9 @@ use Rattle.sqlite_keyed.proofs.SliceLemmas.{is_some-map}
 use Rattle.std.specs.Ordering.{int_eq}
 use Rattle.goo_spec_tables.specs.States.{state_of}
 use Rattle.goo_store_judge.proofs.Looking.{looked, refused_look, well}
-use Rattle.goo_store.proofs.Found.{known}
+use Rattle.goo_store_pieces.proofs.Found.{known}
 use Rattle.goo_store_judge.proofs.Blaming.{blames, refused_blames}
-use Rattle.goo_store.proofs.Caching.{lasts_on}
+use Rattle.goo_store_pieces.proofs.Caching.{lasts_on}
 use Rattle.goo_store.proofs.shelf.SqlShelfShelf.peer.Goals as goal
 
 pub returns-then-self-clause-looks : goal.returns-then-self-clause-looks

@@ -9,10 +9,10 @@ use Rattle.goo_spec_tables.specs.Places.{rows_of}
 use Rattle.goo_spec_tables.proofs.Known.{number_is}
 use Rattle.goo_spec_tables.proofs.RowsFound.{filtered, place_account}
 use Rattle.goo_store_judge.proofs.Looking.{looked, refused_look, well}
-use Rattle.goo_store.proofs.Found.{lots_known, some_beside}
+use Rattle.goo_store_pieces.proofs.Found.{lots_known, some_beside}
 use Rattle.goo_store_judge.proofs.Blaming.{blames, refused_blames}
-use Rattle.goo_store.proofs.RowsRead.{pieces_found, pieces_read}
-use Rattle.goo_store.proofs.Caching.{lasts_on}
+use Rattle.goo_store_pieces.proofs.RowsRead.{pieces_found, pieces_read}
+use Rattle.goo_store_pieces.proofs.Caching.{lasts_on}
 use Rattle.goo_store.proofs.shelf.SqlShelfShelf.pieces_of.Goals as goal
 
 pub returns-then-self-clause-looks : goal.returns-then-self-clause-looks

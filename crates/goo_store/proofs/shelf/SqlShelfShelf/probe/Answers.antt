@@ -1,8 +1,8 @@
 use Rattle.sqlite.specs.Held.{state as view}
 use Rattle.goo_store_judge.proofs.Looking.{looked, refused_look, well}
 use Rattle.goo_store_judge.proofs.Blaming.{blames}
-use Rattle.goo_store.proofs.Caching.{kept_look, lasts_on}
-use Rattle.goo_store.proofs.Found.{known}
+use Rattle.goo_store_pieces.proofs.Caching.{kept_look, lasts_on}
+use Rattle.goo_store_pieces.proofs.Found.{known}
 use Rattle.goo_store.proofs.Probing.{passes, accepts}
 use Rattle.goo_store.proofs.shelf.SqlShelfShelf.probe.Goals as goal
 

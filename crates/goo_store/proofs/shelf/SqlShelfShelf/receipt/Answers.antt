@@ -8,12 +8,12 @@ use Rattle.goo_spec_tables.specs.Replies.{receipt_of}
 use Rattle.goo_spec_tables.proofs.Known.{known_kept, receipt_test, receipt_total}
 use Rattle.goo_spec_tables.specs.States.{state_of}
 use Rattle.goo_store_judge.proofs.Looking.{looked, refused_look, well}
-use Rattle.goo_store.proofs.Found.{known}
+use Rattle.goo_store_pieces.proofs.Found.{known}
 use Rattle.goo_store_judge.proofs.Blaming.{blames, refused_blames}
 use Rattle.goo_store_values.proofs.RowsRead.{found_part, each_so}
 use Rattle.goo_spec_tables.specs.Readable.{is_receipt}
 use Rattle.goo_store_judge.specs.Moments.{tables_in}
-use Rattle.goo_store.proofs.Caching.{lasts_on}
+use Rattle.goo_store_pieces.proofs.Caching.{lasts_on}
 use Rattle.goo_store.proofs.shelf.SqlShelfShelf.receipt.Goals as goal
 
 pub returns-then-self-clause-looks : goal.returns-then-self-clause-looks

@@ -6,14 +6,14 @@ use Rattle.goo_spec_tables.specs.Records.{sent_of}
 use Rattle.goo_spec_tables.proofs.Known.{known_row, number_test}
 use Rattle.goo_spec_tables.specs.States.{state_of}
 use Rattle.goo_store_judge.proofs.Looking.{looked, refused_look, well}
-use Rattle.goo_store.proofs.Found.{known}
+use Rattle.goo_store_pieces.proofs.Found.{known}
 use Rattle.goo_store_judge.proofs.Blaming.{blames, refused_blames}
 use Rattle.goo_store_values.proofs.RowsRead.{found_row, each_so}
 use Rattle.goo_spec_tables.specs.Readable.{is_notice_out}
 use Rattle.goo_tables_rows.specs.Rows.{notice_out_in}
-use Rattle.goo_store.specs.Reading.{IsReadableSent}
+use Rattle.goo_store_pieces.specs.Reading.{IsReadableSent}
 use Rattle.goo_store_judge.specs.Moments.{tables_in}
-use Rattle.goo_store.proofs.Caching.{lasts_on}
+use Rattle.goo_store_pieces.proofs.Caching.{lasts_on}
 use Rattle.goo_store.proofs.shelf.SqlShelfShelf.sent.Goals as goal
 
 pub returns-then-self-clause-looks : goal.returns-then-self-clause-looks

@@ -1,13 +1,13 @@
 use Rattle.std.proofs.Common.{sym, subst}
 use Rattle.sqlite.specs.Held.{state as view}
 use Rattle.goo_store_plans.specs.Found.{AreNone}
-use Rattle.goo_store.specs.Found.{Knows}
+use Rattle.goo_store_pieces.specs.Found.{Knows}
 use Rattle.goo_store.specs.Gathering.{HaveWhatItNeeds}
 use Rattle.goo_store.proofs.CommitsAfter.{refused_prepared}
-use Rattle.goo_store.proofs.Found.{none_known}
+use Rattle.goo_store_pieces.proofs.Found.{none_known}
 use Rattle.goo_store.proofs.Gathering.{refused_gathering, gathering}
 use Rattle.goo_store.proofs.Prepared.{before, well, gathered, found_after, in_order, known, tables_same}
-use Rattle.goo_store.proofs.Caching.{lasts_unanswered}
+use Rattle.goo_store_pieces.proofs.Caching.{lasts_unanswered}
 use Rattle.goo_store.proofs.sql_shelf.SqlShelf.changes_for.Goals as goal
 
 pub returns-then-self-clause-prepares : goal.returns-then-self-clause-prepares

@@ -3,13 +3,13 @@ use Rattle.goo_spec_tables.specs.Records.{correction_of}
 use Rattle.sqlite.specs.Held.{state as view}
 use Rattle.goo_spec_tables.specs.States.{state_of}
 use Rattle.goo_store_judge.proofs.Looking.{looked, refused_look, well}
-use Rattle.goo_store.proofs.Found.{known}
+use Rattle.goo_store_pieces.proofs.Found.{known}
 use Rattle.goo_store_judge.proofs.Blaming.{blames, refused_blames}
-use Rattle.goo_store.proofs.RowsRead.{listed}
+use Rattle.goo_store_pieces.proofs.RowsRead.{listed}
 use Rattle.goo_spec_tables.specs.Readable.{is_correction}
 use Rattle.goo_tables_rows.specs.Rows.{correction_in}
 use Rattle.goo_store_judge.specs.Moments.{tables_in}
-use Rattle.goo_store.proofs.Caching.{lasts_on}
+use Rattle.goo_store_pieces.proofs.Caching.{lasts_on}
 use Rattle.goo_store.proofs.sql_shelf.SqlShelf.corrections.Goals as goal
 
 pub returns-then-self-clause-looks : goal.returns-then-self-clause-looks

@@ -6,8 +6,8 @@ use Rattle.goo_store_judge.proofs.Looking.{looked, refused_look, well}
 use Rattle.goo_store_judge.proofs.Blaming.{blames, refused_blames}
 use Rattle.goo_store.proofs.CountingFound.{countable_shown, device_pieces_read}
 use Rattle.goo_store_audit.proofs.CountingLemmas.{page_added, shares_shown}
-use Rattle.goo_store.proofs.Found.{known}
-use Rattle.goo_store.proofs.Caching.{lasts_on}
+use Rattle.goo_store_pieces.proofs.Found.{known}
+use Rattle.goo_store_pieces.proofs.Caching.{lasts_on}
 use Rattle.goo_store.proofs.sql_shelf.SqlShelf.count_page.Goals as goal
 
 pub returns-then-self-clause-looks : goal.returns-then-self-clause-looks

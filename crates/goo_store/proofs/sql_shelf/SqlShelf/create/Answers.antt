@@ -11,7 +11,7 @@ use Rattle.goo_store_open.specs.declared.fault.OpenFault.TheVariants.{AlreadyThe
 use Rattle.goo_store_values.specs.declared.statement_fault.StatementFault.{StatementFault}
 use Rattle.goo_store_values.specs.declared.statement_fault.StatementFault.TheVariants.{Memory, Refused}
 use Rattle.goo_store.proofs.Created.{begun_state, created_tables, created_well}
-use Rattle.goo_store.proofs.CreationBlamed.{word_blames}
+use Rattle.goo_store_opening.proofs.CreationBlamed.{word_blames}
 use Rattle.goo_store_judge.specs.Holding.{is_sure, safe}
 use Rattle.goo_store.proofs.sql_shelf.SqlShelf.create.Goals as goal
 

@@ -7,12 +7,12 @@ use Rattle.goo_store_judge.specs.Moments.{tables_in}
 use Rattle.sqlite.specs.Held.{state as view}
 use Rattle.goo_spec_tables.specs.States.{state_of}
 use Rattle.goo_store_judge.proofs.Looking.{looked, refused_look, well}
-use Rattle.goo_store.proofs.Found.{known}
+use Rattle.goo_store_pieces.proofs.Found.{known}
 use Rattle.goo_store_judge.proofs.Blaming.{blames, refused_blames}
 use Rattle.goo_store_open.proofs.Carrying.{devices_read}
 use Rattle.goo_store.proofs.DeviceKeys.{keys_bare}
-use Rattle.goo_store.proofs.RowsRead.{devices_found}
-use Rattle.goo_store.proofs.Caching.{lasts_on}
+use Rattle.goo_store_pieces.proofs.RowsRead.{devices_found}
+use Rattle.goo_store_pieces.proofs.Caching.{lasts_on}
 use Rattle.goo_store.proofs.sql_shelf.SqlShelf.device_numbers.Goals as goal
 
 pub returns-then-self-clause-looks : goal.returns-then-self-clause-looks

@@ -5,11 +5,11 @@ use Rattle.goo_store_judge.specs.Moments.{tables_in}
 use Rattle.goo_spec_tables.specs.Places.{rows_of}
 use Rattle.goo_store_judge.proofs.Looking.{looked, refused_look, well}
 use Rattle.goo_store_plans.specs.Found.{IsEdge}
-use Rattle.goo_store.proofs.Found.{lots_known, first_beside}
+use Rattle.goo_store_pieces.proofs.Found.{lots_known, first_beside}
 use Rattle.goo_store_judge.proofs.Blaming.{blames, refused_blames}
-use Rattle.goo_store.proofs.RowsRead.{pieces_read}
+use Rattle.goo_store_pieces.proofs.RowsRead.{pieces_read}
 use Rattle.goo_store.proofs.NextRow.{beyond_found, beyond_read, edge_after}
-use Rattle.goo_store.proofs.Caching.{lasts_on}
+use Rattle.goo_store_pieces.proofs.Caching.{lasts_on}
 use Rattle.goo_store.proofs.sql_shelf.SqlShelf.first_beyond.Goals as goal
 
 pub returns-then-self-clause-looks : goal.returns-then-self-clause-looks

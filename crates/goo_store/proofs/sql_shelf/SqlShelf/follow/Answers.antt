@@ -3,9 +3,9 @@ use Rattle.sqlite.specs.Held.{state as view}
 use Rattle.goo_store_judge.specs.Moments.{tables_in}
 use Rattle.goo_store_judge.proofs.Looking.{looked, refused_look, well}
 use Rattle.goo_store_judge.proofs.Blaming.{blames, refused_blames}
-use Rattle.goo_store.proofs.Found.{lots_known}
-use Rattle.goo_store.proofs.RowsRead.{pieces_read}
-use Rattle.goo_store.proofs.Pages.{lasts_with_page, page_beside, page_readable}
+use Rattle.goo_store_pieces.proofs.Found.{lots_known}
+use Rattle.goo_store_pieces.proofs.RowsRead.{pieces_read}
+use Rattle.goo_store_pieces.proofs.Pages.{lasts_with_page, page_beside, page_readable}
 use Rattle.goo_store.proofs.sql_shelf.SqlShelf.follow.Goals as goal
 
 pub returns-then-self-clause-looks : goal.returns-then-self-clause-looks

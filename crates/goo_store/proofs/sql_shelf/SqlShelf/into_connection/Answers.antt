@@ -1,7 +1,7 @@
 use Rattle.sqlite.specs.Held.{state as view}
 use Rattle.goo_tables_rows.proofs.Ordered.{in_key_order_kept}
 use Rattle.goo_store_judge.specs.Moments.{tables_in}
-use Rattle.goo_store.proofs.Reopened.{opens_well}
+use Rattle.goo_store_opening.proofs.Reopened.{opens_well}
 use Rattle.goo_store.proofs.sql_shelf.SqlShelf.into_connection.Goals as goal
 
 pub returns-clause-ordered : goal.returns-clause-ordered

@@ -14,8 +14,8 @@ use Rattle.goo_store_values.proofs.RowsRead.{found_row, each_so}
 use Rattle.goo_store_judge.specs.Moments.{tables_in}
 use Rattle.goo_store_judge.proofs.Looking.{looked, refused_look, well}
 use Rattle.goo_store_judge.proofs.Blaming.{blames, refused_blames}
-use Rattle.goo_store.proofs.Found.{known}
-use Rattle.goo_store.proofs.Caching.{lasts_on}
+use Rattle.goo_store_pieces.proofs.Found.{known}
+use Rattle.goo_store_pieces.proofs.Caching.{lasts_on}
 use Rattle.goo_store.proofs.sql_shelf.SqlShelf.left_beside.Goals as goal
 
 -- what is read of the row that is found is what is left of the declaration

@@ -1,11 +1,11 @@
 use Rattle.sqlite.specs.Held.{state as view}
 use Rattle.goo_store_judge.specs.Moments.{tables_in}
 use Rattle.goo_store_judge.proofs.Looking.{looked, refused_look, well}
-use Rattle.goo_store.proofs.Found.{own_known}
+use Rattle.goo_store_pieces.proofs.Found.{own_known}
 use Rattle.goo_store_judge.proofs.Blaming.{blames, refused_blames}
-use Rattle.goo_store.proofs.RowsRead.{meta_found}
+use Rattle.goo_store_pieces.proofs.RowsRead.{meta_found}
 use Rattle.goo_store_values.proofs.RowsRead.{meta_read}
-use Rattle.goo_store.proofs.Caching.{kept_blames, kept_look, lasts_on}
+use Rattle.goo_store_pieces.proofs.Caching.{kept_blames, kept_look, lasts_on}
 use Rattle.goo_store.proofs.sql_shelf.SqlShelf.look_up_registry.Goals as goal
 
 pub returns-then-self-clause-looks : goal.returns-then-self-clause-looks

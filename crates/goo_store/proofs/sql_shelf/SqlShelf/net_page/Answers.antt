@@ -6,9 +6,9 @@ use Rattle.goo_store_audit.specs.NetCounting.{IsNetPageAdded}
 use Rattle.goo_store_judge.specs.Moments.{moment, tables_in}
 use Rattle.goo_store_judge.proofs.Looking.{looked, refused_look, tables_same, well}
 use Rattle.goo_store_judge.proofs.Blaming.{blames, refused_blames}
-use Rattle.goo_store.proofs.Found.{known}
+use Rattle.goo_store_pieces.proofs.Found.{known}
 use Rattle.goo_store_audit.proofs.NetLemmas.{net_page_added, nets_read, nets_shown}
-use Rattle.goo_store.proofs.Caching.{lasts_on}
+use Rattle.goo_store_pieces.proofs.Caching.{lasts_on}
 use Rattle.goo_tables_pages.specs.NetRows.{net_in}
 use Rattle.goo_tables_rows.specs.Rows.{declaration_key}
 use Rattle.goo_store.proofs.sql_shelf.SqlShelf.net_page.Goals as goal

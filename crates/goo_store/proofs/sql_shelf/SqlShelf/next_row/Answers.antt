@@ -8,7 +8,7 @@ use Rattle.goo_core_shelf.proofs.Looking.{looked, looked_as, looked_then}
 use Rattle.goo_store_judge.specs.Moments.{moment, tables_in}
 use Rattle.goo_store_judge.proofs.Blaming.{blamed_then}
 use Rattle.goo_store_plans.specs.Found.{IsEdge}
-use Rattle.goo_store.proofs.Edges.{next_behind}
+use Rattle.goo_store_pieces.proofs.Edges.{next_behind}
 use Rattle.goo_store.proofs.NextRow.{before_forward, next_before, next_later, first_of_all}
 use Rattle.goo_store.proofs.sql_shelf.SqlShelf.next_row.Goals as goal
 

@@ -1,6 +1,6 @@
 use Rattle.sqlite.specs.Held.{state as view}
-use Rattle.goo_store.proofs.Found.{none_known}
-use Rattle.goo_store.proofs.Caching.{lasts_first}
+use Rattle.goo_store_pieces.proofs.Found.{none_known}
+use Rattle.goo_store_pieces.proofs.Caching.{lasts_first}
 use Rattle.goo_store.proofs.sql_shelf.SqlShelf.over.Goals as goal
 
 pub invariant_of-result : goal.invariant_of-result

@@ -7,10 +7,10 @@ use Rattle.goo_store_judge.specs.Moments.{tables_in}
 use Rattle.goo_spec_tables.specs.Places.{rows_of}
 use Rattle.goo_spec_tables.proofs.RowsFound.{last_found}
 use Rattle.goo_store_judge.proofs.Looking.{looked, refused_look, well}
-use Rattle.goo_store.proofs.Found.{lots_known, last_beside}
+use Rattle.goo_store_pieces.proofs.Found.{lots_known, last_beside}
 use Rattle.goo_store_judge.proofs.Blaming.{blames, refused_blames}
-use Rattle.goo_store.proofs.RowsRead.{last_piece, pieces_read}
-use Rattle.goo_store.proofs.Caching.{lasts_on}
+use Rattle.goo_store_pieces.proofs.RowsRead.{last_piece, pieces_read}
+use Rattle.goo_store_pieces.proofs.Caching.{lasts_on}
 use Rattle.goo_store.proofs.sql_shelf.SqlShelf.row_before.Goals as goal
 
 pub returns-then-self-clause-looks : goal.returns-then-self-clause-looks

@@ -1,0 +1,5 @@
+pub mod CreationBlamed
+pub mod FirstTables
+pub mod HeldLemmas
+pub mod Reopened
+pub mod Settling

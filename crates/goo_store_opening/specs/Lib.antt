@@ -1,0 +1,4 @@
+pub mod Creating
+pub mod FirstTables
+pub mod Versions
+pub mod Settled
