@@ -26,7 +26,8 @@ fn is_named(name: &[u8], wanted: &str) -> bool
 /// How often a field occurs, and where its value is where that is once.
 fn field_value(buf: &[u8], headers: &[HeaderSpan], wanted: &str) -> Occurrence
     requires { All (IsHeaderWithin (length buf.now)) headers.now }
-    ensures { Occurs buf.now (values_of wanted.now (map (header_bytes buf.now) headers.now)) result }
+    ensures { Occurs buf.now
+        (values_of wanted.now (map (header_bytes buf.now) headers.now)) result }
 {
     let mut found = Occurrence::Absent;
     for header in headers {

@@ -77,7 +77,8 @@ fn whole<'b>(bytes: &'b [u8], head: &Head) -> Result<Received<'b>, RefusedHead>
     requires caller { IfSome head.now.caller (IsWithin (length bytes.now)) }
     requires end { head.now.end ≤ length bytes.now }
     ensures { seen result
-        ≡ whole_request (span_bytes bytes.now head.now.method) (span_bytes bytes.now head.now.target)
+        ≡ whole_request (span_bytes bytes.now head.now.method)
+        (span_bytes bytes.now head.now.target)
         (option_map (span_bytes bytes.now) head.now.caller) (drop head.now.end bytes.now)
         head.now.length }
 {
