@@ -15,7 +15,7 @@ use Rattle.goo_tables_rows.specs.Columns.{first_schema}
 use Rattle.goo_tables_rows.specs.First.{IsFirst}
 use Rattle.goo_tables_rows.specs.Rows.{Tables}
 use Rattle.goo_tables_rows.specs.Stands.{Stands, Rests, Settled}
-pub use Rattle.goo_store_opening.specs.Settled.{IsNotOpened}
+pub use Rattle.goo_store_opening.specs.UpToDate.{IsNotOpened}
 use Rattle.goo_store.specs.Seen.{database_of, seen_by}
 use Rattle.goo_store_opening.specs.Versions.{state_held}
 use Rattle.goo_store.specs.declared.sql_shelf.SqlShelf.{SqlShelf}

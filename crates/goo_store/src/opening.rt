@@ -11,7 +11,7 @@ ghost use Rattle.goo_store.specs.Opened.{IsOpened, IsNotOpened};
 use crate::sql_shelf::SqlShelf;
 use goo_store_open::fault::OpenFault;
 use goo_store_opening::renewal::{NoObserver, RenewalObserver};
-use goo_store_opening::settling::settle;
+use goo_store_opening::up_to_date::bring_up_to_date;
 use sqlite::{Alter, Connection};
 use std::alloc::Global;
 
@@ -77,7 +77,7 @@ impl<S: Alter> SqlShelf<S> {
         ensures outside { IfErr result (λ e. e.0.in_transaction ≡ false) }
     {
         let mut conn = conn;
-        match settle(alloc, &mut conn, observer) {
+        match bring_up_to_date(alloc, &mut conn, observer) {
             Ok(()) => Ok(SqlShelf::over(alloc, conn)),
             Err(fault) => Err((conn, fault)),
         }

@@ -2,4 +2,4 @@ pub mod CreationBlamed
 pub mod FirstTables
 pub mod HeldLemmas
 pub mod Reopened
-pub mod Settling
+pub mod FirstRenewed

@@ -1,4 +1,4 @@
 pub mod Creating
 pub mod FirstTables
 pub mod Versions
-pub mod Settled
+pub mod UpToDate

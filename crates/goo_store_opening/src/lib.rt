@@ -5,4 +5,4 @@
 pub mod creating;
 pub mod renewal;
 pub mod renewing;
-pub mod settling;
+pub mod up_to_date;

@@ -3,14 +3,14 @@ use Rattle.sqlite.specs.Held.{state as view}
 use Rattle.goo_store_judge.specs.Moments.{count, tables_in}
 use Rattle.goo_store_judge.specs.Holding.{is_sure, safe}
 use Rattle.goo_store_judge.proofs.Judging.{rows_fit}
-use Rattle.goo_store_opening.specs.Settled.{IsSettledFrom}
+use Rattle.goo_store_opening.specs.UpToDate.{IsUpToDate}
 use Rattle.goo_store.proofs.sql_shelf.SqlShelf.open_observed.Goals as goal
 
 pub returns-in-Ok-clause-opened : goal.returns-in-Ok-clause-opened
 returns-in-Ok-clause-opened g c =
     let old = view g.S.Store c.args.conn in
     let shelf = c.over.result in
-    let it : IsSettledFrom old (view g.S.Store shelf.conn) = subst (λ conn. IsSettledFrom old (view g.S.Store conn)) (sym c.over.ensures.conn) c.in-Ok.ensures.settled in
+    let it : IsUpToDate old (view g.S.Store shelf.conn) = subst (λ conn. IsUpToDate old (view g.S.Store conn)) (sym c.over.ensures.conn) c.in-Ok.ensures.up_to_date in
     record {
       state = it.state;
       same_state = it.same_state;

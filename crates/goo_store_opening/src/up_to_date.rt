@@ -6,7 +6,7 @@ ghost use Rattle.goo_tables_rows.specs.Columns.{no_schema, registry_schema, firs
 ghost use Rattle.goo_tables_rows.specs.Met.{IsInKeyOrder};
 ghost use Rattle.goo_tables_rows.specs.Stands.{defects};
 ghost use Rattle.goo_store_open.specs.Foreign.{LacksMeta, IsForeignWord};
-ghost use Rattle.goo_store_opening.specs.Settled.{IsSettledFrom, IsNotOpened};
+ghost use Rattle.goo_store_opening.specs.UpToDate.{IsUpToDate, IsNotOpened};
 
 use crate::renewal::RenewalObserver;
 use crate::renewing::renew;
@@ -22,7 +22,7 @@ use std::alloc::Global;
 /// their version become those of version 2 in one transaction, with the same state, which is told
 /// before; whoever stops it leaves the ones or the others.
 ///
-/// What a crash left of a registry is accepted (`again` of `IsSettledFrom`), or refused with `Store`
+/// What a crash left of a registry is accepted (`again` of `IsUpToDate`), or refused with `Store`
 /// or `Memory` (`never_foreign` of `IsNotOpened`).
 ///
 /// # Errors
@@ -30,7 +30,7 @@ use std::alloc::Global;
 /// `NotARegistry`, `Version` or `Damaged` where it holds no registry whose tables are those that
 /// `create` makes, or that it made in version 1, and keep the rules; `Store` where a call was
 /// refused, and `Memory` where memory was. The database is unchanged then.
-pub fn settle<S: Alter, N: RenewalObserver>(
+pub fn bring_up_to_date<S: Alter, N: RenewalObserver>(
     alloc: Global,
     conn: &mut Connection<S>,
     observer: &mut N,
@@ -38,7 +38,7 @@ pub fn settle<S: Alter, N: RenewalObserver>(
     requires outside { conn.old.in_transaction ≡ false }
     requires ordered { defects (view S.Store conn.old) ≡ 0
         → IsInKeyOrder (view S.Store conn.old).now }
-    ensures settled { OnOk result (IsSettledFrom (view S.Store conn.old) (view S.Store conn.new)) }
+    ensures up_to_date { OnOk result (IsUpToDate (view S.Store conn.old) (view S.Store conn.new)) }
     ensures not_opened { IfErr result
         (IsNotOpened (view S.Store conn.old) (view S.Store conn.new)) }
     ensures foreign { ((view S.Store conn.old).now.schema ≡ registry_schema → ⊥)

@@ -5,15 +5,15 @@ use Rattle.sqlite.specs.Effect.{IsDatabase}
 use Rattle.goo_tables_rows.specs.Columns.{first_schema}
 use Rattle.goo_store_open.specs.declared.fault.OpenFault.{OpenFault}
 use Rattle.goo_store_opening.specs.FirstTables.{Renews}
-use Rattle.goo_store_opening.specs.Settled.{IsSettledFrom, IsNotOpened}
+use Rattle.goo_store_opening.specs.UpToDate.{IsUpToDate, IsNotOpened}
 use Rattle.goo_store_opening.proofs.HeldLemmas.{state_renewed}
 use Rattle.goo_store_opening.proofs.FirstTables.{renewed_well, same_state, now_renewed, first_not_ours}
 use Rattle.goo_store_opening.proofs.Reopened.{listed_again}
 
 module _ {T : Type 0} (old new : State) (listed : IsTrue old.is_open → IsDatabase old.now) (schema : old.now.schema ≡ first_schema) where
-  pub first_settled : (r : Result T OpenFault) → Renews old new r → OnOk r (IsSettledFrom old new)
-  first_settled (Err fault) renews = tt
-  first_settled (Ok x) renews = record {
+  pub first_up_to_date : (r : Result T OpenFault) → Renews old new r → OnOk r (IsUpToDate old new)
+  first_up_to_date (Err fault) renews = tt
+  first_up_to_date (Ok x) renews = record {
     state = λ t stands. absurd (first_not_ours old.now schema stands.schema);
     same_state = same_state old new x renews;
     held = state_renewed old new x renews;

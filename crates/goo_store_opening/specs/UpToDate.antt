@@ -19,7 +19,7 @@ use Rattle.goo_store_opening.specs.FirstTables.{HoldsRenewed}
 use Rattle.goo_store_opening.specs.Versions.{state_held}
 
 -- a database whose tables keep the rules, once those of version 1 were renewed
-pub record IsSettledFrom (before after : State) : Type 0 where
+pub record IsUpToDate (before after : State) : Type 0 where
   -- its state is that of its tables of version 2
   pub state : (t : Tables) → Stands before.now t → defects after ≡ 0 → state_of (tables_in after) ≡ state_of t
   -- or that of its tables of version 1

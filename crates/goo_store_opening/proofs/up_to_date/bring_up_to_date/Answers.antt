@@ -10,8 +10,8 @@ use Rattle.goo_store_judge.proofs.Judging.{met_ours, opened_well, opened_state, 
 use Rattle.goo_store_opening.proofs.HeldLemmas.{held_ours}
 use Rattle.goo_store_opening.proofs.FirstTables.{first_not_ours, met_first}
 use Rattle.goo_store_opening.proofs.Reopened.{listed_again, found_again, outside_again}
-use Rattle.goo_store_opening.proofs.Settling.{first_settled, first_not_opened}
-use Rattle.goo_store_opening.proofs.settling.settle.Goals as goal
+use Rattle.goo_store_opening.proofs.FirstRenewed.{first_up_to_date, first_not_opened}
+use Rattle.goo_store_opening.proofs.up_to_date.bring_up_to_date.Goals as goal
 
 -- ---- tables of version 1
 
@@ -22,13 +22,13 @@ renew-requires-clause-met g c clean =
     let schema : (view g.S.Store c.args.conn.now).now.schema ≡ first_schema = c.has_first_schema.ensures.schema.0 is in
     met_first (view g.S.Store c.args.conn.now) schema (λ live. c.has_first_schema.ensures.first is live (c.requires.ordered (is_sure (view g.S.Store c.args.conn.now) clean live))) (c.is_autocommit-settled.ensures.settled out)
 
-pub returns-then-has_first_schema-clause-settled : goal.returns-then-has_first_schema-clause-settled
-returns-then-has_first_schema-clause-settled g c =
+pub returns-then-has_first_schema-clause-up_to_date : goal.returns-then-has_first_schema-clause-up_to_date
+returns-then-has_first_schema-clause-up_to_date g c =
     let is : IsTrue c.has_first_schema.result = search rules in
     let old = view g.S.Store c.args.conn.now in
     let new = view g.S.Store c.renew.new.conn in
     let schema : old.now.schema ≡ first_schema = c.has_first_schema.ensures.schema.0 is in
-    first_settled old new (λ was. (c.schema-known.ensures.live was).0) schema c.renew.result c.renew.ensures
+    first_up_to_date old new (λ was. (c.schema-known.ensures.live was).0) schema c.renew.result c.renew.ensures
 
 pub returns-then-has_first_schema-clause-not_opened : goal.returns-then-has_first_schema-clause-not_opened
 returns-then-has_first_schema-clause-not_opened g c =
@@ -59,8 +59,8 @@ returns-then-not-has_our_schema-clause-not_opened g c =
 
 -- ---- tables of ours
 
-pub returns-in-Ok-clause-settled : goal.returns-in-Ok-clause-settled
-returns-in-Ok-clause-settled g c =
+pub returns-in-Ok-clause-up_to_date : goal.returns-in-Ok-clause-up_to_date
+returns-in-Ok-clause-up_to_date g c =
     let out : IsTrue c.is_autocommit-settled.result = search rules in
     let is_ours : IsTrue c.has_our_schema.result = search rules in
     let met : HasCleanDisk (view g.S.Store c.args.conn.now) → IsMet Ours (view g.S.Store c.args.conn.now) = λ clean. met_ours (view g.S.Store c.args.conn.now) (c.has_our_schema.ensures.schema.0 is_ours) (λ live. c.has_our_schema.ensures.ours is_ours live (c.requires.ordered (is_sure (view g.S.Store c.args.conn.now) clean live))) (c.is_autocommit-settled.ensures.settled out) in
