@@ -236,8 +236,26 @@ def etcdctl(host):
     return ["--endpoints", f"{host.scheme()}://127.0.0.1:2379", *(["--cacert", c.folder / "ca.pem", "--cert", tls / "pem", "--key", tls / "key"] if c.tls else [])]
 
 
+def unanswered():
+    """`replica-log` whose first call of etcd is carried out, and its answer lost."""
+    return "python3", "-c", f"""
+import runpy, sys
+sys.path.insert(0, {str(REPLICA.parent)!r})
+import replica_etcd
+call = replica_etcd.Etcd.call
+
+async def lost(self, path, words):
+    replica_etcd.Etcd.call = call
+    await call(self, path, words)
+    raise replica_etcd.NoAnswer("the answer is lost")
+
+replica_etcd.Etcd.call = lost
+runpy.run_path({str(REPLICA.parent / "replica-log")!r}, run_name="__main__")
+"""
+
+
 def anew(cluster, work):
-    """etcd is lost whole: a new one is begun where a replica is."""
+    """etcd is lost whole: a new one is begun where a replica is. The answer to that is lost, and a member is asked again."""
     n = cluster.even(60)
     for host in cluster.hosts:
         host.hold("replica")
@@ -247,12 +265,12 @@ def anew(cluster, work):
     cluster.etcd_state = "new"
     for host in cluster.hosts:
         host.release("etcd")
-    first = until(lambda: ((done := cluster.hosts[0].op("found")).returncode == 0 or "there is a log" in done.stderr) and done)
+    first = until(lambda: ((done := cluster.hosts[0].op("found", program=unanswered())).returncode == 0 or "there is a log" in done.stderr) and done)
     done = [first, cluster.hosts[0].op("found"), cluster.hosts[1].op("found")]
     for host in cluster.hosts:
         host.release("replica")
     entry = cluster.even(60)
-    check(f"etcd lost whole: {done[0].stdout.strip()}, once, and all replicas go on from there", [d.returncode for d in done[1:]] == [1, 1] and entry == n + 1, (n, entry, done))
+    check(f"etcd lost whole: {done[0].stdout.strip()}, once, and all replicas go on from there", [d.returncode for d in done] == [0, 1, 1] and entry == n + 1, (n, entry, done))
     check("with requests", some(work, 10, 0, "anew") == 10 and cluster.even(60) == n + 11)
     three = cluster.hosts[2]
     for host in cluster.hosts:

@@ -143,9 +143,9 @@ class Host:
         self.held.discard(name)
         self.again_at[name] = 0
 
-    def op(self, *words):
-        """replica-log, as the operator of this host says it."""
-        return run(*self.inside(REPLICA.parent / "replica-log", *words, *self.common(), "--door", f"127.0.0.1:{self.port}", "--goo", GOO, "--copies", self.cluster.folder / "copies",
+    def op(self, *words, program=(REPLICA.parent / "replica-log",)):
+        """replica-log, as the operator of this host says it; or another program with its words."""
+        return run(*self.inside(*program, *words, *self.common(), "--door", f"127.0.0.1:{self.port}", "--goo", GOO, "--copies", self.cluster.folder / "copies",
                                 "--db", self.disk / "goo/registry.db", *(["--version", VERSION] if words[0] in ("found", "first-copy") else [])), env={**os.environ, "TMPDIR": str(self.cluster.folder), "GOO_EXCHANGE": "/nowhere", "GOO_CONFIGURATION": "/nowhere"})
 
     def log(self, name):
@@ -234,13 +234,15 @@ class Cluster:
         self.even(60)
 
     def found(self):
+        """Whoever got no answer may find that the log was begun all the same."""
         first = self.hosts[0]
-        for _ in range(50):
+        for unanswered in range(50):
             done = first.op("found")
-            if done.returncode == 0:
+            begun = done.returncode == 0 or unanswered and "there is a log in this etcd, which ends at entry 1\n" in done.stderr
+            if begun:
                 break
             time.sleep(0.3)
-        check(f"the log is founded: {done.stdout.strip()}", done.returncode == 0, done)
+        check(f"the log is founded: {(done.stdout or done.stderr).strip()}", begun, done)
         shutil.copy(first.state / "place", self.folder / "place-0")
         for host in self.hosts[1:]:
             shutil.copy(first.state / "place", host.state / "place")

@@ -6,8 +6,8 @@ ghost use Rattle.goo_tables_rows.specs.Rows.{correction_in};
 ghost use Rattle.goo_spec_tables.specs.Records.{act_or_none, correction_of};
 ghost use Rattle.goo_spec_tables.specs.Readable.{is_correction, is_maybe_act};
 
-use goo_core_shelf::correct_record::CorrectRecord;
 use crate::declares::gsrn_in;
+use goo_core_shelf::correct_record::CorrectRecord;
 use goo_tables_rows::correction::CorrectionRow;
 use goo_types::act_no::ActNo;
 use goo_types::day::Day;

@@ -3,8 +3,8 @@
 ghost use Rattle.std.specs.Prelude.{◌≡◌, IfOk};
 ghost use Rattle.goo_store_rules.specs.Summing.{left_at, KeepsEnergy};
 
-use goo_core_shelf::correct_record::CorrectRecord;
 use crate::sums::{sum_declared, sum_for, sum_lowered};
+use goo_core_shelf::correct_record::CorrectRecord;
 use goo_types::command::Declare;
 use goo_types::gsrn::Gsrn;
 use std::alloc::{AllocError, Global};

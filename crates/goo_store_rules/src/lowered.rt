@@ -7,8 +7,8 @@ ghost use Rattle.goo_spec.specs.Energy.{net as net_energy};
 ghost use Rattle.goo_store_rules.specs.Correcting.{is_period, taken_at, less_at};
 ghost use Rattle.goo_store_rules.specs.Production.{is_covered};
 
-use goo_core_shelf::correct_record::CorrectRecord;
 use crate::sums::net;
+use goo_core_shelf::correct_record::CorrectRecord;
 use goo_types::command::Declare;
 use goo_types::day::Day;
 use goo_types::gsrn::Gsrn;

@@ -12,7 +12,6 @@ ghost use Rattle.goo_store_rules.specs.Production.{IsProductionAccepted, IsProdu
 ghost use Rattle.goo_store_rules.specs.Production.{IsCorrectedKept, KeepsProduction, pieces_in};
 ghost use Rattle.goo_store_rules.specs.Summing.{sum_at, KeepsEnergy};
 
-use goo_core_shelf::correct_record::CorrectRecord;
 use crate::corrects::corrects_in;
 use crate::declares::declares_in;
 use crate::energy::{Energy, sum_energy};
@@ -21,6 +20,7 @@ use crate::lowered::cover_corrections;
 use crate::periods::last_days;
 use crate::progress::keep_progress;
 use crate::taken_back::withdrawals_of;
+use goo_core_shelf::correct_record::CorrectRecord;
 use goo_store_open::rows::Production;
 use goo_tables_rows::device::DeviceRow;
 use goo_tables_rows::lot::LotRow;
