@@ -1,5 +1,5 @@
 // A file of declarations, read before anything of it is sent: what is at fault, by row and field, with what was
-// expected. deploy/check-declarations does the same by the same rules; tools/declarations holds the two, and the
+// expected. deploy/check-declarations does the same by the same rules; tools/trials/declarations holds the two, and the
 // registry's own answers, against each other.
 
 import {t} from './language.js';

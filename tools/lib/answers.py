@@ -1,4 +1,4 @@
-"""Which goals of a crate have a proof by hand: for tools/wrong-bodies and tools/refusals.
+"""Which goals of a crate have a proof by hand: for tools/proving/wrong-bodies and tools/gate/refusals.
 
 A goal that an edit breaks and that no file answers is one that search did not prove, which is what a wrong body should meet. A goal that is answered
 by hand is refused as soon as that answer no longer fits, and nothing else is tried on it: another proof of the edited body might go through.

@@ -1,4 +1,4 @@
-"""What a client outside is answered, held against what docs/openapi-outside.yaml and docs/records.yaml tell of it: trials of the front door for tools/front-door."""
+"""What a client outside is answered, held against what docs/openapi-outside.yaml and docs/records.yaml tell of it: trials of the front door for tools/trials/front-door."""
 import concurrent.futures
 import json
 import re

@@ -1,4 +1,4 @@
-"""Wrong bodies as files: where they stand and what they say. For tools/wrong-bodies, tools/refusals and tools/edits-stand.
+"""Wrong bodies as files: where they stand and what they say. For tools/proving/wrong-bodies, tools/gate/refusals and tools/gate/edits-stand.
 
 An edit of the gate is crates/CRATE/must-fail/NAME.edit. Any other is wrong-bodies/CRATE/FILE/NAME.edit; FILE is the source file that it changes, without `src/` and without its ending.
 """

@@ -1,4 +1,4 @@
-"""Who gets in, and who keeps others out: trials of the front door for tools/front-door. Each was seen failing on a door without its guard."""
+"""Who gets in, and who keeps others out: trials of the front door for tools/trials/front-door. Each was seen failing on a door without its guard."""
 import concurrent.futures
 import grp
 import json

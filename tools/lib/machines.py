@@ -1,4 +1,4 @@
-"""Debian machines of a trial's own: a container with its own systemd, several in a network of their own, or one by qemu. For tools/machine."""
+"""Debian machines of a trial's own: a container with its own systemd, several in a network of their own, or one by qemu. For tools/trials/machine."""
 import base64
 import contextlib
 import fcntl

@@ -1,4 +1,4 @@
-"""Valid texts of the registry, and what chance makes of them: for tools/hostile-bytes.
+"""Valid texts of the registry, and what chance makes of them: for tools/trials/hostile-bytes.
 
 A World makes valid requests that a small registry mostly accepts, each under a key of its own. A Mutator changes bytes, cuts, doubles, inserts,
 joins two texts, or puts another token of the grammar in the place of one.

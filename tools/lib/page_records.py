@@ -1,4 +1,4 @@
-"""A place with the log of requests and the records of acts beside the registry, and the trials of the page in it. For tools/page."""
+"""A place with the log of requests and the records of acts beside the registry, and the trials of the page in it. For tools/trials/page."""
 import calendar
 import csv
 import json

@@ -1,6 +1,6 @@
 """What bytes state by docs/FORMATS.md, read here a second time and apart from the program: JSON, bodies, notices, tables, heads of requests.
 
-For tools/hostile-bytes and tools/damaged-tables, which compare the program's answers with these. Standard library alone.
+For tools/trials/hostile-bytes and tools/trials/damaged-tables, which compare the program's answers with these. Standard library alone.
 """
 import calendar
 import json

@@ -1,4 +1,4 @@
-"""Who sees what of the records: each route of the service, asked by everybody. For tools/records.
+"""Who sees what of the records: each route of the service, asked by everybody. For tools/trials/records.
 
 The routes are those of the service's own tables. A new one fails here until one of LISTS, SUMS, ONES and OTHERS has a line for it.
 """

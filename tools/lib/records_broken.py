@@ -1,4 +1,4 @@
-"""Logs and books with something wrong: each is told with its object, nothing is lost, and a book is made anew. For tools/records."""
+"""Logs and books with something wrong: each is told with its object, nothing is lost, and a book is made anew. For tools/trials/records."""
 import re
 import shutil
 import sqlite3

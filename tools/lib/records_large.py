@@ -1,4 +1,4 @@
-"""A book of many acts, for tools/records --large: the time and the memory that it takes to make, and the time of its answers, beside the registry's own statement.
+"""A book of many acts, for tools/trials/records --large: the time and the memory that it takes to make, and the time of its answers, beside the registry's own statement.
 
 Two holders trade single certificates by chance, until the acts are so many as were asked for; the archive says that each was accepted, and the book fails where the rules say otherwise.
 Two others hold every second certificate of a stretch in turn. The registry gets the requests of these two, so that its statement of their account is the same as in the book.

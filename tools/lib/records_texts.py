@@ -1,4 +1,4 @@
-"""Texts that are looked for in acts: what the index of texts finds is what a plain look through all acts finds, for each viewer. For tools/records."""
+"""Texts that are looked for in acts: what the index of texts finds is what a plain look through all acts finds, for each viewer. For tools/trials/records."""
 import random
 
 import records_answers

@@ -1,4 +1,4 @@
-"""What the trials of the records service share: requests by chance, the book that is made of them, and the service over it, asked without a socket. For tools/records."""
+"""What the trials of the records service share: requests by chance, the book that is made of them, and the service over it, asked without a socket. For tools/trials/records."""
 import datetime
 import json
 import random

@@ -1,4 +1,4 @@
-"""The exchange on three hosts, for tools/replicas: it runs on one at a time, and another goes on when that one is lost."""
+"""The exchange on three hosts, for tools/trials/replicas: it runs on one at a time, and another goes on when that one is lost."""
 import functools
 import http.server
 import json

@@ -1,4 +1,4 @@
-"""Figures of a registry behind its log beside the same registry bare, for tools/replicas. They are ratios of one run on one machine."""
+"""Figures of a registry behind its log beside the same registry bare, for tools/trials/replicas. They are ratios of one run on one machine."""
 import collections
 import contextlib
 import itertools

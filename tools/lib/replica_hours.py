@@ -1,4 +1,4 @@
-"""Hours of low, steady load on a registry behind its log, for tools/replicas: what grows that must not, and whether all holds at the end."""
+"""Hours of low, steady load on a registry behind its log, for tools/trials/replicas: what grows that must not, and whether all holds at the end."""
 import os
 import pathlib
 import time

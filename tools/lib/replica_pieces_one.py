@@ -1,4 +1,4 @@
-"""Single trials of one host with its log, for tools/replicas."""
+"""Single trials of one host with its log, for tools/trials/replicas."""
 import archives
 import replica_place
 import collections

@@ -1,4 +1,4 @@
-"""Single trials of three hosts with etcd, for tools/replicas."""
+"""Single trials of three hosts with etcd, for tools/trials/replicas."""
 import collections
 import contextlib
 import json

@@ -1,4 +1,4 @@
-"""Slow lines between three hosts, for tools/replicas: many kernels have no netem, so relays hand on what comes after a while."""
+"""Slow lines between three hosts, for tools/trials/replicas: many kernels have no netem, so relays hand on what comes after a while."""
 import asyncio
 import contextlib
 import signal

@@ -1,6 +1,6 @@
 """Hosts with a registry, its replica and, on three of them, etcd; clients, faults by chance, and what must hold after them.
 
-For tools/replicas. On three hosts each is a network namespace, which asks for root; one host needs none.
+For tools/trials/replicas. On three hosts each is a network namespace, which asks for root; one host needs none.
 """
 import base64, bisect, collections, concurrent.futures, contextlib, ctypes, itertools, json, os, pathlib, random, re, shutil, signal, socket, ssl, subprocess, sys, threading, time
 

@@ -1,4 +1,4 @@
-"""Stand-ins for the registry's program, each with one thing wrong: for tools/wrong-programs.
+"""Stand-ins for the registry's program, each with one thing wrong: for tools/trials/wrong-programs.
 
 Each function below is one wrong thing. Its mark says what it changes and which tool has to catch it:
 
