@@ -20,7 +20,7 @@ returns-in-Ok-clause-opened g c =
       apart = λ none. (shelf.well.kept none).apart refl;
       ready = record {
         told = ap count c.over.ensures.ready;
-        works = λ late. is_sure (view g.S.Store shelf.conn) late it.works;
+        works = λ late. is_sure (view g.S.Store shelf.conn) late (it.works late);
         settled = λ none. safe (view g.S.Store shelf.conn) shelf.well (λ live db may. g.met.S.Store.settled shelf.conn.store db live may) none shelf.refused;
       };
       kept = it.kept;
