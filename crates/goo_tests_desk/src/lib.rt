@@ -15,10 +15,10 @@ mod claims;
 #[cfg(test)]
 mod clients;
 #[cfg(test)]
-mod deeds;
-#[cfg(test)]
 mod failing;
 #[cfg(test)]
 mod tests;
+#[cfg(test)]
+mod trials;
 #[cfg(test)]
 mod wire;

@@ -1,8 +1,8 @@
 //! The tests.
 use crate::cases::{CARRIED, CASES, WORKED};
 use crate::claims::holds;
-use crate::deeds::{Deed, does, new_registry};
 use crate::failing::FailingBackend;
+use crate::trials::{Trial, does, new_registry};
 use crate::wire::{ACCEPTED, APOLOGY, AUDIT, AUDITED_NEW, OPENING, PLANT};
 use goo_desk_backend::Backend;
 use goo_desk_responses::Status;
@@ -14,22 +14,22 @@ use std::net::{Shutdown, TcpListener, TcpStream};
 
 #[test]
 fn worked_requests_are_answered_byte_for_byte(rt: HostRuntime) {
-    does(&rt, rt.alloc(), &Deed::Answers(&PLANT, &WORKED))
+    does(&rt, rt.alloc(), &Trial::Answers(&PLANT, &WORKED))
 }
 
 #[test]
 fn a_device_of_hydrogen(rt: HostRuntime) {
-    does(&rt, rt.alloc(), &Deed::Answers(&PLANT, &CARRIED))
+    does(&rt, rt.alloc(), &Trial::Answers(&PLANT, &CARRIED))
 }
 
 #[test]
 fn each_case_is_answered(rt: HostRuntime) {
-    does(&rt, rt.alloc(), &Deed::Begins(&CASES))
+    does(&rt, rt.alloc(), &Trial::Begins(&CASES))
 }
 
 #[test]
 fn each_beginning_of_a_request_is_refused(rt: HostRuntime) {
-    does(&rt, rt.alloc(), &Deed::RefusesBeginnings)
+    does(&rt, rt.alloc(), &Trial::RefusesBeginnings)
 }
 
 /// What a server over loopback tells, and what its second client gets: the first is gone in the
@@ -66,18 +66,18 @@ fn a_listener_on_loopback_serves_its_clients(rt: HostRuntime) {
 
 #[test]
 fn as_many_clients_are_served_as_were_asked_for(rt: HostRuntime) {
-    does(&rt, rt.alloc(), &Deed::ServesThree)
+    does(&rt, rt.alloc(), &Trial::ServesThree)
 }
 
 #[test]
 fn a_client_that_breaks_off_while_it_sends_changes_nothing(rt: HostRuntime) {
-    does(&rt, rt.alloc(), &Deed::LosesSenders)
+    does(&rt, rt.alloc(), &Trial::LosesSenders)
 }
 
 #[test]
 fn a_client_that_breaks_off_while_it_takes_the_answer_sends_again(rt: HostRuntime) {
     for room in 0..ACCEPTED.len() {
-        does(&rt, rt.alloc(), &Deed::LosesATaker(room));
+        does(&rt, rt.alloc(), &Trial::LosesATaker(room));
     }
 }
 

@@ -13,7 +13,7 @@ use std::process::Abort;
 
 /// What is done.
 #[derive(Clone, Copy)]
-pub enum Step<'a> {
+pub enum FileStep<'a> {
     /// Requests are sent, each of which is accepted.
     Sends(&'a [SentLine]),
     /// Texts are asked for.
@@ -27,18 +27,25 @@ pub enum Step<'a> {
 }
 
 /// A step is taken.
-fn takes<S: Shelf>(rt: &impl Abort, alloc: Global, registry: &mut Registry<S>, step: &Step<'_>) {
+fn takes<S: Shelf>(
+    rt: &impl Abort,
+    alloc: Global,
+    registry: &mut Registry<S>,
+    step: &FileStep<'_>,
+) {
     match step {
-        Step::Sends(lines) => sends(rt, alloc, registry, lines),
-        Step::Gives(asked) => gives_all(rt, alloc, registry, asked),
-        Step::LacksHeader(input) => lacks_header(rt, alloc, registry, input),
-        Step::Reports(input, rows, wanted) => reports(rt, alloc, registry, input, *rows, wanted),
-        Step::FailsToWrite(room) => fails_to_write(rt, alloc, registry, *room),
+        FileStep::Sends(lines) => sends(rt, alloc, registry, lines),
+        FileStep::Gives(asked) => gives_all(rt, alloc, registry, asked),
+        FileStep::LacksHeader(input) => lacks_header(rt, alloc, registry, input),
+        FileStep::Reports(input, rows, wanted) => reports(
+            rt, alloc, registry, input, *rows, wanted,
+        ),
+        FileStep::FailsToWrite(room) => fails_to_write(rt, alloc, registry, *room),
     }
 }
 
 /// These steps are taken with a new registry over lists.
-pub fn takes_all(rt: &impl Abort, alloc: Global, steps: &[Step<'_>]) {
+pub fn takes_all(rt: &impl Abort, alloc: Global, steps: &[FileStep<'_>]) {
     let mut registry = in_lists(rt, alloc);
     for step in steps {
         takes(rt, alloc, &mut registry, step);

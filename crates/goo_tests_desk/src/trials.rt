@@ -17,7 +17,7 @@ use std::process::Abort;
 
 /// What is done.
 #[derive(Clone, Copy)]
-pub enum Deed<'a> {
+pub enum Trial<'a> {
     /// These requests are accepted, and the others then answered with just this.
     Answers(&'a [&'static str], &'a [Exchange]),
     /// Each of these is answered with this first line.
@@ -33,17 +33,17 @@ pub enum Deed<'a> {
 }
 
 /// This is done.
-fn works<D: Backend>(rt: &impl Abort, alloc: Global, desk: &mut D, deed: &Deed<'_>) {
-    match deed {
-        Deed::Answers(before, asked) => {
+fn works<D: Backend>(rt: &impl Abort, alloc: Global, desk: &mut D, trial: &Trial<'_>) {
+    match trial {
+        Trial::Answers(before, asked) => {
             accepts_each(rt, alloc, desk, before);
             answers_each(rt, alloc, desk, asked)
         }
-        Deed::Begins(asked) => begins_each(rt, alloc, desk, asked),
-        Deed::RefusesBeginnings => refuses_beginnings(rt, alloc, desk),
-        Deed::ServesThree => serves_three(rt, alloc, desk),
-        Deed::LosesSenders => loses_senders(rt, alloc, desk),
-        Deed::LosesATaker(room) => loses_a_taker(rt, alloc, desk, *room),
+        Trial::Begins(asked) => begins_each(rt, alloc, desk, asked),
+        Trial::RefusesBeginnings => refuses_beginnings(rt, alloc, desk),
+        Trial::ServesThree => serves_three(rt, alloc, desk),
+        Trial::LosesSenders => loses_senders(rt, alloc, desk),
+        Trial::LosesATaker(room) => loses_a_taker(rt, alloc, desk, *room),
     }
 }
 
@@ -56,7 +56,7 @@ pub fn new_registry(rt: &impl Abort, alloc: Global) -> Registry<ListShelf> {
 }
 
 /// This is done to a new registry over lists.
-pub fn does(rt: &impl Abort, alloc: Global, deed: &Deed<'_>) {
+pub fn does(rt: &impl Abort, alloc: Global, trial: &Trial<'_>) {
     let mut registry = new_registry(rt, alloc);
-    works(rt, alloc, &mut registry, deed)
+    works(rt, alloc, &mut registry, trial)
 }
