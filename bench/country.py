@@ -4,8 +4,8 @@ usage: python3 bench/country.py [--devices N] [--years N] [--trades N] [--seed N
 
 Each month every device declares the month before; of each lot some certificates are transferred, some of those are cancelled, and the rest expires in its time. What is made depends on the seed alone. At
 each quarter of the months it measures, over the file as it is then: the file, opening it, an audit, the statement of the account with the most runs, a copy, and requests to a server, one connection
-each (median and 99th of a hundred). Beside them stands what SQLite takes by itself: its check of the file, one query a table that adds up what the audit adds up, and one ordered query for the statement; and
-beside the opening that of the kit's library alone (`goo: damaged` on standard error is its end).
+each (median and 99th of a hundred). Beside them stands what SQLite takes by itself: its check of the file, one query a table that adds up what the audit adds up, and the plain registry in Rust (plain.rs),
+which writes the same statement from one ordered query; and beside the opening that of the kit's library alone (`goo: damaged` on standard error is its end).
 At the end `deploy/recount` carries out all requests once more. It prints one table as Markdown. Ten years of 3,000 devices take about an hour and 3 GB below FOLDER (a temporary one by itself).
 """
 import argparse
@@ -26,7 +26,7 @@ from pathlib import Path
 
 import measured
 from client import ask, free_port, read_answer, request
-from measured import HERE, PROGRAM, Run, goo, head, machine, ratio, room, row, say
+from measured import HERE, PROGRAM, Run, goo, head, machine, ratio, room, row, rust, rust_run, say
 from workloads import ISSUING_BODY, certificate, device_number, line
 
 PRODUCERS, TRADERS = 40, 20
@@ -122,6 +122,17 @@ class File:
             database.execute('CREATE TABLE other (a INTEGER)')
         return goo('run', '--db', other, fine=(3,))
 
+    def plainly_stated(self, account):
+        """The processor seconds in which the plain registry in Rust writes the same statement from a copy; without it, those of a query whose rows are read only."""
+        if not rust():
+            return min(self.query(STATED, of=(account,)) for _ in range(READ))
+        other, text = self.folder / 'other', self.folder / 'plain'
+        shutil.copyfile(self.path, other)
+        seconds = min(rust_run(other, '--statement', str(account), to=text).seconds for _ in range(READ))
+        if text.read_bytes() != (self.folder / 'text').read_bytes():
+            sys.exit('the two statements differ')
+        return seconds
+
     def longest(self):
         with closing(sqlite3.connect(self.path)) as database:
             return database.execute('SELECT account FROM piece WHERE kind = 1 GROUP BY account ORDER BY count(*) DESC LIMIT 1').fetchone()
@@ -209,7 +220,7 @@ def look(file):
         'opening, processor seconds': (opening.seconds, opening.memory, file.query('PRAGMA integrity_check')),
         "the library's own opening, processor seconds": (library.seconds, library.memory, None),
         'audit of a server, processor seconds': (file.answered('/v1/audit'), audit.memory, min(file.query(*ADDED) for _ in range(READ))),
-        'the longest statement of a server, processor seconds': (file.answered(f'/v1/accounts/{account[0]}/statement'), stated.memory, min(file.query(STATED, of=account) for _ in range(READ))),
+        'the longest statement of a server, processor seconds': (file.answered(f'/v1/accounts/{account[0]}/statement'), stated.memory, file.plainly_stated(account[0])),
         'a copy, seconds by the clock': (file.copied(), None, None),
         'a certificate over HTTP, ms at the median': (read, None, None), 'a certificate over HTTP, ms of the 99th': (slow_read, None, None),
         'a transfer over HTTP, ms at the median': (write, None, None), 'a transfer over HTTP, ms of the 99th': (slow_write, None, None)}

@@ -2,6 +2,7 @@
 //!
 //! usage: plain CREATE [DATABASE] [--as-it-comes] < LINES
 //!        plain CREATE [DATABASE] --serve PORT
+//!        plain CREATE DATABASE --statement ACCOUNT
 //!
 //! Reads its input whole, so that a read that fails leaves nothing done, and then writes an outcome line for each request line, as `goo run` does, over the
 //! registry's own tables (the texts of the file CREATE). With --as-it-comes it reads and answers line by line, which takes less memory. It looks up the receipt, checks
@@ -10,7 +11,7 @@
 //! alone; its code and its date are those of the measurements. Ends with status 1 where a request is not accepted.
 //!
 //! With --serve it answers `POST /v1/requests` and `GET /v1/certificates/N` over HTTP at a port of 127.0.0.1, one connection after another. A connection goes on
-//! for as long as the client likes, unless it asks for `Connection: close`. `measured.py` builds it in a temporary folder.
+//! for as long as the client likes, unless it asks for `Connection: close`. With --statement it writes the statement of an account, by one ordered query. `measured.py` builds it in a temporary folder.
 
 use rusqlite::{params, Connection, OptionalExtension, Params, Row};
 use serde_json::{Map, Value};
@@ -24,6 +25,8 @@ const LAST_ACT: i64 = 999_999_999;
 const MWH: i64 = 1_000_000;
 const HELD: i64 = 1;
 const CANCELLED: i64 = 2;
+/// The words for the kinds of places, of which the first is that of 1.
+const PLACES: [&str; 5] = ["held", "cancelled", "expired", "withdrawn", "exported"];
 /// The bytes of a page, and how many pages the log takes before they go to the database: as the registry has them.
 const PAGE: i64 = 1_024;
 const LOG_PAGES: i64 = 4_000;
@@ -431,13 +434,41 @@ impl Plain {
                 row.get::<_, i64>(3)?, text(4)?, text(5)?, text(6)?, text(7)?, text(8)?, text(9)?, row.get::<_, i64>(10)?, text(11)?, text(12)?, text(13)?, text(14)?
             );
             let (account, act, kind) = (row.get::<_, i64>(0)?, row.get::<_, i64>(1)?, row.get::<_, i64>(2)?);
-            let place = ["", "held", "cancelled", "expired", "withdrawn", "exported"][kind as usize];
+            let place = PLACES[kind as usize - 1];
             Ok((account, format!(r#"{{"account":{},"act":{},"lot":{},"number":"{:014}","place":"{}"}}"#, account, act, lot, number, place)))
         })?;
         match found {
             Some((account, shown)) if caller == "ISSUER" || self.account(account)?.map_or(false, |(holder, _)| holder == caller) => Ok(Some(shown)),
             _ => Ok(None),
         }
+    }
+
+    /// Writes the statement of an account: a line for each row that names it.
+    fn statement(&self, account: i64) -> Result<(), Box<dyn std::error::Error>> {
+        let mut out = std::io::BufWriter::new(std::io::stdout().lock());
+        let (holder, closed) = self.account(account)?.ok_or("no such account")?;
+        let today: String = self.database.query_row("SELECT today FROM meta", [], |row| row.get(0))?;
+        writeln!(out, "STATEMENT\nregistry {:02}\ndate {}\naccount {}\nholder {}\nstatus {}", CODE, today, account, holder, if closed { "closed" } else { "open" })?;
+        let mut sums = [0; PLACES.len()];
+        let mut named = self.database.prepare_cached(
+            "SELECT first, last, device, first_day, last_day, tech, source, kind, act FROM piece JOIN lot ON lot.id = piece.lot WHERE account = ? ORDER BY first",
+        )?;
+        let mut rows = named.query([account])?;
+        while let Some(row) = rows.next()? {
+            let (first, last, kind, act): (i64, i64, usize, i64) = (row.get(0)?, row.get(1)?, row.get(7)?, row.get(8)?);
+            let text = |at| row.get_ref(at).and_then(|cell| Ok(cell.as_str()?));
+            write!(out, "{:014} {:014} {:12} {} {} {} {} {} {}", first, last, last - first + 1, text(2)?, text(3)?, text(4)?, text(5)?, text(6)?, PLACES[kind - 1])?;
+            if act > 0 {
+                write!(out, ":{}", act)?;
+            }
+            writeln!(out)?;
+            sums[kind - 1] += last - first + 1;
+        }
+        for (place, sum) in PLACES.iter().zip(sums) {
+            writeln!(out, "{} {}", place, sum)?;
+        }
+        writeln!(out, "END")?;
+        Ok(out.flush()?)
     }
 
     /// Answers the requests of a connection until the client is done.
@@ -495,11 +526,15 @@ impl Plain {
 fn main() -> Result<(), Box<dyn std::error::Error>> {
     let mut words: Vec<String> = std::env::args().skip(1).collect();
     let port = words.iter().position(|word| word == "--serve").map(|at| words.drain(at..).nth(1).unwrap_or_default());
+    let account = words.iter().position(|word| word == "--statement").map(|at| words.drain(at..).nth(1).unwrap_or_default());
     let as_it_comes = words.iter().position(|word| word == "--as-it-comes").map(|at| words.remove(at)).is_some();
-    let create = std::fs::read_to_string(words.first().ok_or("usage: plain CREATE [DATABASE] [--as-it-comes] [--serve PORT]")?)?;
+    let create = std::fs::read_to_string(words.first().ok_or("usage: plain CREATE [DATABASE] [--as-it-comes] [--serve PORT] [--statement ACCOUNT]")?)?;
     let plain = Plain::open(&create, words.get(1).cloned())?;
     if let Some(port) = port {
         return plain.serve(&port);
+    }
+    if let Some(account) = account {
+        return plain.statement(account.parse()?);
     }
     let all_accepted = if as_it_comes {
         plain.run(std::io::stdin().lock().lines())?

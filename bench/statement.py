@@ -1,18 +1,19 @@
-"""Opening a file, and `goo statement` of an account of many runs, beside Python's sqlite3 module printing the same text by one ordered query.
+"""Opening a file, and `goo statement` of an account of many runs, beside the plain registry in Rust and Python's sqlite3 module, which print the same text by one ordered query.
 
 usage: python3 bench/statement.py
 
 Opening reads and judges all tables, whatever is asked then: it is measured by a run over the same file that asks for nothing, beside SQLite's own `integrity_check`. What a
 statement takes beyond that is its own; its peak of memory is that of the whole run, opening too.
-Both texts are compared, byte for byte. What a statement holds while it is written is measured apart (live.c): the most bytes that are live between its first and its last
+All texts are compared, byte for byte. What a statement holds while it is written is measured apart (live.c): the most bytes that are live between its first and its last
 write, and beside it those of a statement of ten runs, of another account of the same file. The files lie on tmpfs where there is one.
 """
+import shutil
 import sqlite3
 import sys
 import time
 from contextlib import closing
 
-from measured import HEAD, NEW, fast, goo, head, least, live, machine, measured_row, room, workload
+from measured import HEAD, NEW, fast, goo, head, least, live, machine, measured_row, room, rust_run, workload
 
 TURNS = 6
 SIZE = 32_000
@@ -51,23 +52,26 @@ def made(folder, name):
 
 
 def checked_run(folder):
-    """A run that opens the file and asks for nothing, and SQLite's check."""
-    return goo('run', '--db', folder / 'registry'), checked(folder / 'registry')
+    """A run that opens the file and asks for nothing, SQLite's check, and nothing in Rust."""
+    return goo('run', '--db', folder / 'registry'), checked(folder / 'registry'), None
 
 
 def stated(folder):
-    """The statement of account 1, and the query that writes the same."""
-    ours, theirs = folder / 'ours', folder / 'theirs'
+    """The statement of account 1, the query in Python that writes the same, and the one in Rust."""
+    ours, theirs, copy = folder / 'ours', folder / 'theirs', folder / 'copy'
     found = goo('statement', '1', '--db', folder / 'registry', to=ours), plain(folder / 'registry', theirs)
-    if ours.read_bytes() != theirs.read_bytes():
-        sys.exit('the two statements differ')
-    return found
+    shutil.copyfile(folder / 'registry', copy)
+    of_rust = rust_run(copy, '--statement', '1', to=folder / 'plain')
+    texts = {ours.read_bytes(), theirs.read_bytes(), *([(folder / 'plain').read_bytes()] if of_rust else [])}
+    if len(texts) != 1:
+        sys.exit('the statements differ')
+    return *found, of_rust
 
 
 def in_turns(*works):
-    """Each work, a call and a folder, in turns: of each the best run, and the least seconds of what stands beside it."""
+    """Each work, a call and a folder, in turns: of each the best run, the least seconds of what stands beside it in Python, and the best run in Rust."""
     turns = [[call(folder) for call, folder in works] for _ in range(TURNS)]
-    return [(least(run for run, _ in of_work), min(seconds for _, seconds in of_work)) for of_work in zip(*turns)]
+    return [(least(own), min(seconds), least(of_rust)) for own, seconds, of_rust in (zip(*of_work) for of_work in zip(*turns))]
 
 
 def beyond(own, opening):
@@ -76,9 +80,9 @@ def beyond(own, opening):
     return own
 
 
-def show(work, place, own, of_python):
+def show(work, place, own, of_python, of_rust):
     """Prints the row of a work."""
-    measured_row(work, place, SIZE, own, of_python=of_python)
+    measured_row(work, place, SIZE, own, of_rust=of_rust, of_python=of_python)
 
 
 def main():
@@ -86,11 +90,11 @@ def main():
     place = fast()
     with room(place) as of_declarations, room(place) as of_runs:
         declarations, runs = made(of_declarations, 'declarations'), made(of_runs, 'runs')
-        opening, of_holdings, (own, query) = in_turns((checked_run, declarations), (checked_run, runs), (stated, runs))
+        opening, of_holdings, (own, *others) = in_turns((checked_run, declarations), (checked_run, runs), (stated, runs))
         whole, ten = [live(of_runs, 'statement', account, '--db', runs / 'registry') for account in (1, 3)]
     show('opening a file, declarations', place, *opening)
     show('opening a file, runs', place, *of_holdings)
-    show('`statement` beyond opening, runs', place, beyond(own, of_holdings[0]), query)
+    show('`statement` beyond opening, runs', place, beyond(own, of_holdings[0]), *others)
     if not whole or not ten:
         return ''
     return f'While the statement of {SIZE:,} runs is written {whole[2]:,} bytes are live at most, and {ten[2]:,} while one of ten runs of the same file is.'

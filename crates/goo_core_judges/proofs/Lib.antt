@@ -1,6 +1,7 @@
 pub mod Appraising
 pub mod Joining
 pub mod Walking
+pub mod Fresh
 pub mod Issuing
 pub mod Closing
 pub mod Exporting

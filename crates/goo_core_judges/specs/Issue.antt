@@ -5,6 +5,8 @@ use Rattle.goo_types.specs.Range.{Numbers}
 use Rattle.goo_types.specs.declared.command.Declare.{Declare}
 use Rattle.goo_types.specs.declared.refusal.Refusal.{Refusal}
 use Rattle.goo_types.specs.declared.lot_fields.LotFields.{LotFields}
+use Rattle.goo_types.specs.declared.piece.Piece.{Piece}
+use Rattle.goo_types.specs.declared.reply.Reply.TheVariants.{Declared}
 use Rattle.goo_types.specs.declared.refusal.Refusal.TheVariants.{NotAllowed, UnknownDevice, PeriodOrder, Stale, AuxExceedsGross, OverCapacity, NumbersExhausted}
 use Rattle.goo_types.specs.declared.place.Place.TheVariants.{Held}
 use Rattle.goo_spec.specs.Lots.{Certificates}
@@ -14,8 +16,11 @@ use Rattle.goo_spec.specs.Days.{is_over}
 use Rattle.goo_spec.specs.State.{State, Device, serials}
 use Rattle.goo_spec.specs.Declare.{device_checks, with_declaration, range_of, next_number, earned, lot_of, begins_too_early, last_end, declared_by, most_energy}
 use Rattle.goo_spec.specs.Energy.{carry}
+use Rattle.goo_ranges.specs.declared.edits.Edit.{Edit}
 use Rattle.goo_core_shelf.specs.Shelf.{progress_of}
 use Rattle.goo_core_shelf.specs.Meta.{meta_of}
+use Rattle.goo_core_rules.specs.declared.ruling.Ruling.{Ruling}
+use Rattle.goo_core_rules.specs.declared.ruling.Ruling.TheVariants.{Passed}
 use Rattle.goo_core_judges.specs.declared.declare.Standing.{Standing}
 use Rattle.goo_core_judges.specs.declared.issue.Issue.{Issue}
 use Rattle.goo_core_judges.specs.declared.issue.Terms.{Terms}
@@ -78,3 +83,17 @@ range_in (Some issue) = Some issue.range
 abbrev pub with_issued : Option Issue → Certificates → Certificates
 with_issued None at = at
 with_issued (Some issue) at = give_each (each issue.range) issue.lot (Held issue.account) at
+
+-- the row of an issue
+abbrev pub row_of : Issue → Piece
+row_of issue = record { first = issue.range.first; last = issue.range.last; lot = issue.lot; place = Held issue.account }
+
+-- one edit, which adds the row of the issue, if there is one
+abbrev pub AreForIssue : Option Issue → List Edit → Type 0
+AreForIssue None edits = edits ≡ []
+AreForIssue (Some issue) edits = (edit : Edit) × (edits ≡ edit ∷ []) × (edit.delete.items ≡ []) × (edit.insert.items ≡ row_of issue ∷ [])
+
+-- the terms are the reply, and their issue is made
+abbrev pub IsIssueRuling : Terms → Ruling → Type 0
+IsIssueRuling terms (Passed change) = (change.reply ≡ Declared terms.carry (range_in terms.issue)) × (change.notice ≡ None) × AreForIssue terms.issue change.edits.items
+IsIssueRuling terms _ = ⊥

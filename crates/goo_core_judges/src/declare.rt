@@ -1,7 +1,9 @@
 //! Declarations: their checks, and the certificates that they earn (Directive (EU) 2018/2001,
 //! Article 19(2)).
 ghost use Rattle.std.specs.Prelude.{◌≡◌, ◌+◌, ◌-◌, ◌≤◌, ◌*◌, ◌/◌, ◌%◌, ◌||◌, true, false, nat_lt};
+ghost use Rattle.std.specs.Prelude.{IfErr, IfOk};
 ghost use Rattle.std.specs.Option.{option_to_list};
+ghost use Rattle.goo_types.specs.declared.fault.Fault.TheVariants.{Memory};
 ghost use Rattle.goo_types.specs.declared.refusal.Refusal.TheVariants.{NumbersExhausted};
 ghost use Rattle.goo_types.specs.declared.command.Declare.{Declare};
 ghost use Rattle.goo_spec.specs.Checks.{is_shut as shut_test};
@@ -18,7 +20,7 @@ ghost use Rattle.goo_ranges_rows.specs.Rows.{AreRowsOf};
 ghost use Rattle.goo_core_shelf.specs.Shelf.{Looks, IsReady};
 ghost use Rattle.goo_core_moves.specs.Ruling.{IsRuling, plain_meaning};
 ghost use Rattle.goo_core_judges.specs.Issue.{IsStandingIf, IsStanding, appraisal_of, appraisal_with};
-ghost use Rattle.goo_core_judges.specs.Issue.{terms_of, energy_checks};
+ghost use Rattle.goo_core_judges.specs.Issue.{IsIssueRuling, terms_of, energy_checks};
 
 use crate::issue::{Appraisal, Terms, issue_edits, issue_of, issued_range, numbers_from};
 use goo_core_reads::callers::is_issuer;
@@ -231,6 +233,22 @@ pub fn appraise<S: Shelf>(
     }
 }
 
+/// The ruling that issues what a declaration earns.
+fn issue(alloc: Global, terms: Terms) -> Result<Ruling, Fault>
+    ensures ruling { IfOk result (IsIssueRuling terms) }
+    ensures memory { IfErr result (λ fault. fault ≡ Memory) }
+{
+    let edits = issue_edits(alloc, terms.issue)?;
+    Ok(Ruling::Passed(Change {
+        reply: Reply::Declared {
+            carry: terms.carry,
+            issued: issued_range(&terms.issue),
+        },
+        edits,
+        notice: None,
+    }))
+}
+
 /// The ruling on a declaration.
 ///
 /// # Errors
@@ -259,17 +277,6 @@ pub fn judge_declare<S: Shelf>(
 {
     match appraise(shelf, caller, declaration)? {
         Appraisal::Fails(refusal) => Ok(Ruling::Refused(refusal)),
-        Appraisal::Passes(terms) => {
-            let reply = Reply::Declared {
-                carry: terms.carry,
-                issued: issued_range(&terms.issue),
-            };
-            let edits = issue_edits(alloc, shelf, terms.issue)?;
-            Ok(Ruling::Passed(Change {
-                reply,
-                edits,
-                notice: None,
-            }))
-        }
+        Appraisal::Passes(terms) => issue(alloc, terms),
     }
 }

@@ -1,26 +1,23 @@
 //! What a declaration issues.
 
-ghost use Rattle.std.specs.Prelude.{◌≡◌, ◌≤◌, ◌+◌, ◌*◌, ◌-◌, length, Some};
-ghost use Rattle.std.specs.Option.{option_to_list};
+ghost use Rattle.std.specs.Prelude.{◌≡◌, ◌≤◌, ◌+◌, ◌*◌, ◌-◌, [], ◌∷◌, Some, IfErr, IfOk};
 ghost use Rattle.std.specs.Int.{IsInRange};
+ghost use Rattle.goo_types.specs.declared.fault.Fault.TheVariants.{Memory};
 ghost use Rattle.goo_spec.specs.Declare.{range_of};
-ghost use Rattle.goo_core_judges.specs.Issue.{issue_with, range_in, with_issued};
-ghost use Rattle.goo_ranges_rows.specs.Rows.{AreRowsOf};
-ghost use Rattle.goo_core_shelf.specs.Shelf.{Looks, IsReady};
-ghost use Rattle.goo_core_moves.specs.Changes.{IsTurnedInTurn};
+ghost use Rattle.goo_core_judges.specs.Issue.{AreForIssue, issue_with, range_in, row_of};
 
-use goo_core_moves::edits::add_met;
-use goo_core_shelf::shelf::Shelf;
-use goo_ranges::{Book, Edit};
+use goo_core_rules::moved_rows::single;
+use goo_ranges::Edit;
 use goo_types::account_no::AccountNo;
 use goo_types::fault::Fault;
 use goo_types::lot::Lot;
 use goo_types::number::Number;
+use goo_types::piece::Piece;
 use goo_types::place::Place;
 use goo_types::range::Range;
 use goo_types::refusal::Refusal;
 use goo_types::registry_code::RegistryCode;
-use std::alloc::Global;
+use std::alloc::{AllocError, Global};
 
 /// Certificates that are issued to an account.
 #[derive(Clone, Copy)]
@@ -89,35 +86,37 @@ pub fn issued_range(issue: &Option<Issue>) -> Option<Range>
     }
 }
 
-/// The edits that make an issue, if there is one.
+/// The edit that adds the row of an issue.
+fn edit_of(alloc: Global, issue: &Issue) -> Result<Edit, AllocError>
+    ensures deleted { IfOk result (λ edit. edit.delete.items ≡ []) }
+    ensures inserted { IfOk result (λ edit. edit.insert.items ≡ row_of issue.now ∷ []) }
+{
+    let delete = Vec::new(alloc);
+    let mut insert = Vec::new(alloc);
+    insert.push(Piece {
+        first: issue.range.first(),
+        last: issue.range.last(),
+        lot: issue.lot,
+        place: Place::Held(issue.account),
+    })?;
+    Ok(Edit { delete, insert })
+}
+
+/// The edits that make an issue, if there is one: one row more. No row needs to be looked up: the
+/// numbers are new, and no row is joined to this one, since the lot is new too.
 ///
 /// # Errors
 ///
-/// `Store` where the shelf answers it, `Memory` where memory was refused. State and rows stay as
-/// they are.
-pub fn issue_edits<S: Shelf>(
-    alloc: Global,
-    shelf: &mut S,
-    issue: Option<Issue>,
-) -> Result<Vec<Edit>, Fault>
-    requires ready { IsReady (S.seen shelf.old) }
-    requires rows { (S.seen shelf.old).defects ≡ 0
-        → AreRowsOf (S.seen shelf.old).state.at (S.seen shelf.old).rows }
-    ensures { Looks (S.seen shelf.old) (S.seen shelf.new) result
-        (λ edits. IsTurnedInTurn (option_to_list (range_in issue))
-        (with_issued issue (S.seen shelf.old).state.at) (S.seen shelf.old).rows edits.items
-        × (length edits.items ≤ 1)) }
+/// `Memory` where memory was refused.
+pub fn issue_edits(alloc: Global, issue: Option<Issue>) -> Result<Vec<Edit>, Fault>
+    ensures edits { IfOk result (λ edits. AreForIssue issue edits.items) }
+    ensures memory { IfErr result (λ fault. fault ≡ Memory) }
 {
-    let Some(issue) = issue else {
-        return Ok(Vec::new(alloc));
-    };
-    let met = shelf.meeting(alloc, issue.range)?;
-    let book = Book::of_rows(met);
-    add_met(
-        alloc,
-        book,
-        issue.range,
-        issue.lot,
-        Place::Held(issue.account),
-    )
+    match issue {
+        None => Ok(Vec::new(alloc)),
+        Some(issue) => {
+            let edit = edit_of(alloc, &issue)?;
+            Ok(single(alloc, edit)?)
+        }
+    }
 }

@@ -10,5 +10,4 @@ pub mod CommitBlamed
 pub mod NextRow
 pub mod HeldFound
 pub mod CountingFound
-pub mod NewNumbers
 pub mod Probing

@@ -1,5 +1,4 @@
 pub mod Preparing
 pub mod Gathering
-pub mod Issuing
 pub mod Seen
 pub mod Opened

@@ -98,6 +98,7 @@ pub(crate) fn read_record(
     *kept = Some(KnownDevice {
         gsrn: *gsrn,
         device,
+        last_day: progress.last_day,
     });
     Ok(Some(DeviceRecord { device, progress }))
 }

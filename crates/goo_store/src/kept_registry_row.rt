@@ -27,12 +27,15 @@ pub fn copied(own: &Option<MetaRow>) -> Option<MetaRow>
     })
 }
 
-/// The row after a change, where it is known then.
+/// The row after a change; none where memory for it is refused.
 fn after_change(row: MetaRow, change: &TableChange) -> Option<MetaRow>
     ensures { (t : Tables) → IsRowOf (Some row) t → IsRowOf result (made t change.now) }
 {
     match change {
-        TableChange::SetToday(_) => None,
+        TableChange::SetToday(day) => Some(MetaRow {
+            today: day.clone().ok()?,
+            ..row
+        }),
         TableChange::SetCounters(counters) => Some(MetaRow {
             next_serial: counters.next_serial,
             next_account: counters.next_account,

@@ -10,7 +10,6 @@ mod declarations;
 mod device_numbers;
 mod devices;
 mod held;
-mod issuing;
 mod kept_registry_row;
 mod lots;
 mod lowering;

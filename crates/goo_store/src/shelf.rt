@@ -1,7 +1,6 @@
 //! The shelf over tables as a shelf: each look-up asks one statement or none, and reads its rows.
 
 use crate::commits::{ending, known_after};
-use crate::issuing::is_issued_next;
 use crate::kept_registry_row::{copied, row_after};
 use crate::sql_shelf::SqlShelf;
 use crate::{accounts, cancellations, devices, held, lots, notices, peers, receipts};
@@ -132,8 +131,9 @@ impl<S: Alter> Shelf for SqlShelf<S> {
             (λ name. name ≡ get (seen_by self.old).state.holders code.now) }
         ensures store { Blames self.old self.new result }
     {
-        self.cache.answered = false;
-        holders::name_of(self.alloc, &mut self.conn, &mut self.refused, code)
+        let name = holders::name_of(self.alloc, &mut self.conn, &mut self.refused, code);
+        self.cache.answered = name.is_ok();
+        name
     }
 
     // The account that is kept, or else the one in the table, which is kept then.
@@ -309,8 +309,7 @@ impl<S: Alter> Shelf for SqlShelf<S> {
         note_fault(cancellations::read_record(found), &mut self.refused)
     }
 
-    // A range within one row, short of its ends, takes one statement, and so do numbers that are
-    // issued next, since no row begins there. Any other range takes two.
+    // A range within one row, short of its ends, takes one statement. Any other range takes two.
     fn meeting(&mut self, alloc: Global, range: Range) -> Result<Vec<Piece>, Fault>
         ensures looks { Looks (seen_by self.old) (seen_by self.new) result
             (λ met. met.items ≡ near range (seen_by self.old).rows) }
@@ -322,9 +321,6 @@ impl<S: Alter> Shelf for SqlShelf<S> {
         let before = self.row_before(alloc, first)?;
         if let Some(row) = ending_behind(&before, last) {
             return alone(alloc, row);
-        }
-        if is_issued_next(&self.known_rows.own, range.first()) {
-            return note_fault(join_near(alloc, range, before, &[]), &mut self.refused);
         }
         let later = self.rows_beginning(alloc, first, last + 1)?;
         note_fault(join_near(alloc, range, before, &later), &mut self.refused)

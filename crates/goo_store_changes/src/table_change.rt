@@ -28,7 +28,7 @@ use goo_tables::withdrawal::insert_withdrawal;
 use goo_tables_accounts::account::{close_account, insert_account};
 use goo_tables_accounts::counters::CountersRow;
 use goo_tables_accounts::holder::insert_holder;
-use goo_tables_accounts::piece::{delete_piece, insert_piece, set_piece};
+use goo_tables_accounts::piece::{delete_piece, insert_piece, insert_two_pieces, set_piece};
 use goo_tables_rows::account::AccountRow;
 use goo_tables_rows::cancellation::CancellationRow;
 use goo_tables_rows::correction::CorrectionRow;
@@ -163,11 +163,29 @@ fn replacing(changes: &[TableChange], at: usize) -> Option<PieceRow>
     }
 }
 
+/// The rows of two pieces that come one after the other: the changes at this place and the next one
+/// add them.
+fn inserted_pair(changes: &[TableChange], at: usize) -> Option<(PieceRow, PieceRow)>
+    requires { at < length changes.now }
+    ensures { IfSome result
+        (λ rows. (d : TableChange) → (get_or changes.now at d ≡ TableChange.InsertPiece rows.0)
+        × (at + 1 < length changes.now)
+        × (get_or changes.now (at + 1) d ≡ TableChange.InsertPiece rows.1)) }
+{
+    let TableChange::InsertPiece(first) = &changes[at] else {
+        return None;
+    };
+    match changes.get(at + 1) {
+        Some(TableChange::InsertPiece(second)) => Some((*first, *second)),
+        _ => None,
+    }
+}
+
 /// Makes the change at a place, and the next one too where the two are one statement; how many
 /// these are.
 ///
 /// One UPDATE in place of a DELETE and an INSERT saves a statement. It leaves the account's index
-/// alone where a row is only cut.
+/// alone where a row is only cut. One INSERT of two pieces saves a statement too.
 fn make_at<S: Alter>(
     tx: &mut Transaction<'_, S>,
     changes: &[TableChange],
@@ -199,9 +217,13 @@ fn make_at<S: Alter>(
     ensures survives { Survives (state S.Store tx.old.conn.now) (state S.Store tx.new.conn.now)
         (λ _. ⊥) }
 {
-    match replacing(changes, at) {
-        Some(row) => {
-            replace_piece(tx, &row)?;
+    if let Some(row) = replacing(changes, at) {
+        replace_piece(tx, &row)?;
+        return Ok(2);
+    }
+    match inserted_pair(changes, at) {
+        Some((first, second)) => {
+            insert_two_pieces(tx, &first, &second)?;
             Ok(2)
         }
         None => {

@@ -91,6 +91,10 @@ module _ (old new : State) (it : IsWell old) {T : Type 0} (r : Result T Error) (
   works_so {U = U} W R q (Err Memory) a b result passes told works = subst (λ (z : Result U Fault). OnOk z W) (sym told.0) tt
   works_so {U = U} W R q (Err Refused) a b result passes told works = subst (λ (z : Result U Fault). OnOk z W) (sym told.0) tt
 
+  -- the database is open where something was told
+  pub answered : {U : Type 0} (R : T → U → Type 0) (read : Result U StatementFault) (a b : Bool) (result : Result U Fault) → Passes r read R → Tells read result a b → OnOk result (HasCleanDisk new → IsTrue new.is_open)
+  answered R read a b result passes told = works_so _ R r read a b result passes told looks.works
+
   -- a look-up that was told
   pub looked : {U : Type 0} (P : U → Type 0) (R : T → U → Type 0) (read : Result U StatementFault) (a b : Bool) (result : Result U Fault) → LeavesCommit old → a ≡ false → Passes r read R → Tells read result a b
       → (AreKept (tables_in old) → (x : T) (y : U) → right (tables_in old) x → R x y → P y) → shelf.Looks (moment old a) (moment new b) result P

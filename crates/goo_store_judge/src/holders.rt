@@ -1,8 +1,9 @@
 //! Holders, as they are found.
 
-ghost use Rattle.std.specs.Prelude.{◌≡◌, false, pos, IfSome, IsTrue, option_map};
+ghost use Rattle.std.specs.Prelude.{◌≡◌, false, pos, IfSome, IsTrue, OnOk, option_map};
 ghost use Rattle.std.specs.FinMap.{get};
 ghost use Rattle.sqlite.specs.Held.{state as view};
+ghost use Rattle.sqlite.specs.State.{HasCleanDisk};
 ghost use Rattle.goo_tables_rows.specs.Rows.{holder_in};
 ghost use Rattle.goo_tables_rows.specs.Stands.{defects};
 ghost use Rattle.goo_core_shelf.specs.Shelf.{Looks};
@@ -53,6 +54,8 @@ pub fn name_of<S: Alter>(
         (moment (view S.Store conn.new) refused.new) result
         (λ name. name ≡ get (moment (view S.Store conn.old) refused.old).state.holders code.now) }
     ensures store { BlamesStore (view S.Store conn.old) (view S.Store conn.new) refused.old result }
+    ensures works { OnOk result
+        (HasCleanDisk (view S.Store conn.new) → IsTrue (view S.Store conn.new).is_open) }
     ensures well { IsWell (view S.Store conn.new) }
     ensures same { defects (view S.Store conn.new) ≡ 0 → (defects (view S.Store conn.old) ≡ 0)
         × (tables_in (view S.Store conn.new) ≡ tables_in (view S.Store conn.old)) }

@@ -30,7 +30,7 @@ pub so_on : (old new : State) (it : IsWell old) {T : Type 0} (r : Result T Error
 so_on old new it r right looks cache cached none = so_still old new it r right looks (IsCacheOf cache) none (cached.so (before old new it r right looks none))
 
 -- the database is open where a statement was answered
-pub opened : {T : Type 0} (new : State) (r : Result T Error) (b : Bool) → b ≡ is_ok r → OnOk r (HasCleanDisk new → IsTrue new.is_open) → IsTrue b → HasCleanDisk new → IsTrue new.is_open
+pub opened : {T E : Type 0} (new : State) (r : Result T E) (b : Bool) → b ≡ is_ok r → OnOk r (HasCleanDisk new → IsTrue new.is_open) → IsTrue b → HasCleanDisk new → IsTrue new.is_open
 opened new (Ok x) b same works is = works
 opened new (Err e) b same works is = absurd (true≢false (sym is ∙ same))
 
@@ -59,6 +59,14 @@ lasts_with_account old new a b number r looks first last answered same keeps cac
     ahead = subst (λ xs. AreAhead (rows_of (tables_in new)) xs.items) (sym same) (cached.so none).ahead;
   };
   is_open = λ is. cached.is_open (sym answered ∙ is);
+}
+
+-- after calls of which it is known whether they were answered
+pub lasts_answered : (old new : State) {T E : Type 0} (r : Result T E) → OnOk r (HasCleanDisk new → IsTrue new.is_open) → (cache : Cache) (b : Bool) → b ≡ is_ok r → (defects new ≡ 0 → (defects old ≡ 0) × (tables_in new ≡ tables_in old)) → HoldsCache old cache
+    → HoldsCache new (record { answered = b; accounts = cache.accounts; ahead = cache.ahead })
+lasts_answered old new r works cache b is same cached = record {
+  so = λ none. let still = subst (IsCacheOf cache) (sym (same none).1) (cached.so (same none).0) in record { accounts = still.accounts; ahead = still.ahead };
+  is_open = opened new r b is works;
 }
 
 -- after calls of which it is not known whether they were answered

@@ -12,14 +12,14 @@ use Rattle.goo_spec.proofs.Mapping.{inside}
 use Rattle.goo_types.specs.declared.lot_fields.LotFields.{LotFields}
 use Rattle.goo_types.specs.declared.piece.Piece.{Piece}
 use Rattle.goo_tables_rows.specs.Beside.{beside, pieces_beside, joined_in}
-use Rattle.goo_tables_rows.specs.Rows.{Tables, Lot, declaration_key, device_in, lot_in, lot_key, meta_in}
+use Rattle.goo_tables_rows.specs.Rows.{Tables, Lot, correction_key, declaration_key, device_in, lot_in, lot_key, meta_in}
 use Rattle.goo_tables_rows.specs.Stands.{Looks, Stands, defects}
 use Rattle.goo_tables_rows.specs.declared.device.DeviceRow.{DeviceRow}
 use Rattle.goo_tables_rows.specs.declared.joined.JoinedRow.{JoinedRow}
 use Rattle.goo_tables_rows.specs.declared.lot.LotRow.{LotRow}
 use Rattle.goo_tables_rows.specs.declared.meta.MetaRow.{MetaRow}
 use Rattle.goo_tables_rows.specs.declared.piece.PieceRow.{PieceRow}
-use Rattle.goo_spec_tables.specs.Devices.{device_of}
+use Rattle.goo_spec_tables.specs.Devices.{device_of, device_row, progress_in}
 use Rattle.goo_spec_tables.specs.States.{state_of}
 use Rattle.goo_spec_tables.specs.Places.{lot_of, piece_of, rows_of}
 use Rattle.goo_store_plans.specs.Found.{IsRowOf, IsBasisOf, IsDeviceOf, IsNext, IsStated, AreStated, AreInTables, AreNone, AreEdges, IsNoBasis}
@@ -41,6 +41,7 @@ no_basis t known is = record {
   device = subst (λ o. IsDeviceOf o t) (sym is.device) tt;
   number = subst (λ o. IsNext o declaration_key t.declarations) (sym is.number) tt;
   next_lot = subst (λ o. IsNext o lot_key t.lots) (sym is.next_lot) tt;
+  correction = subst (λ o. IsNext o correction_key t.corrections) (sym is.correction) tt;
 }
 
 -- nothing kept is right of all tables
@@ -93,9 +94,10 @@ own_known old new it r looks known_rows b knows kept none =
 -- ---- what is kept after a device was looked up
 
 pub device_known : (old new : State) (it : IsWell old) (r : Result (Option DeviceRow) Error) (right : Tables → Option DeviceRow → Type 0) → Looks old new r right → (gsrn : List ℕ)
-    → ((row : DeviceRow) → right (tables_in old) (Some row) → get (state_of (tables_in old)).devices gsrn ≡ Some (device_of (device_in row)))
+    → ((row : DeviceRow) → right (tables_in old) (Some row)
+    → (get (state_of (tables_in old)).devices gsrn ≡ Some (device_of (device_in row))) × ((progress_in (device_row (tables_in old).devices gsrn)).last_day ≡ (progress_in (Some (device_in row))).last_day))
     → (known_rows : KnownRows) (b : Option KnownDevice) → Knows old known_rows → KeepsDevice r gsrn known_rows.basis.device b
-    → Knows new (record { own = known_rows.own; basis = record { device = b; number = known_rows.basis.number; next_lot = known_rows.basis.next_lot }; lots = known_rows.lots; edges = known_rows.edges })
+    → Knows new (record { own = known_rows.own; basis = record { device = b; number = known_rows.basis.number; next_lot = known_rows.basis.next_lot; correction = known_rows.basis.correction }; lots = known_rows.lots; edges = known_rows.edges })
 device_known old new it r right looks gsrn is_it known_rows b knows kept none =
     let still = known old new it r _ looks known_rows knows in record {
       own = (still none).own;
@@ -107,12 +109,13 @@ device_known old new it r right looks gsrn is_it known_rows b knows kept none =
             ];
         number = (still none).basis.number;
         next_lot = (still none).basis.next_lot;
+        correction = (still none).basis.correction;
       };
       lots = (still none).lots;
       edges = (still none).edges;
     }
   where
-    there : (q : Result (Option DeviceRow) Error) → IfOk q (right (tables_in old)) → IsOkAnd q (λ row. IsSomeAnd row (λ x. b ≡ Some (record { gsrn = gsrn; device = device_of (device_in x) }))) → IsDeviceOf b (tables_in old)
+    there : (q : Result (Option DeviceRow) Error) → IfOk q (right (tables_in old)) → IsOkAnd q (λ row. IsSomeAnd row (λ x. b ≡ Some (record { gsrn = gsrn; device = device_of (device_in x); last_day = (progress_in (Some (device_in x))).last_day }))) → IsDeviceOf b (tables_in old)
     there (Ok None) found is = absurd is
     there (Ok (Some row)) found is = subst (λ o. IsDeviceOf o (tables_in old)) (sym is) (is_it row found)
     there (Err e) found is = absurd is

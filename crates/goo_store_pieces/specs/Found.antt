@@ -8,18 +8,19 @@ use mathlib.Core.Path.{refl}
 use Rattle.sqlite.specs.State.{State}
 use Rattle.sqlite.specs.declared.error.Error.{Error}
 use Rattle.sqlite_keyed.specs.Keyed.{get_by, next_key}
+use Rattle.goo_types.specs.Day.{CalendarDay}
 use Rattle.goo_types.specs.declared.lot_fields.LotFields.{LotFields}
 use Rattle.goo_types.specs.declared.piece.Piece.{Piece}
 use Rattle.goo_spec.specs.State.{Device}
 use Rattle.goo_tables_rows.specs.Beside.{joined_in}
-use Rattle.goo_tables_rows.specs.Rows.{Tables, Meta, Lot, declaration_key, device_in, lot_in, lot_key}
+use Rattle.goo_tables_rows.specs.Rows.{Tables, Meta, Lot, correction_key, declaration_key, device_in, lot_in, lot_key}
 use Rattle.goo_tables_rows.specs.Stands.{defects}
 use Rattle.goo_tables_rows.specs.declared.device.DeviceRow.{DeviceRow}
 use Rattle.goo_tables_rows.specs.declared.joined.JoinedRow.{JoinedRow}
 use Rattle.goo_tables_rows.specs.declared.lot.LotRow.{LotRow}
 use Rattle.goo_tables_rows.specs.declared.meta.MetaRow.{MetaRow}
 use Rattle.goo_tables_rows.specs.declared.piece.PieceRow.{PieceRow}
-use Rattle.goo_spec_tables.specs.Devices.{device_of}
+use Rattle.goo_spec_tables.specs.Devices.{device_of, device_row, progress_in}
 use Rattle.goo_spec_tables.specs.Places.{rows_of}
 use Rattle.goo_spec_tables.specs.States.{state_of}
 use Rattle.goo_store_plans.specs.Found.{IsRowOf, IsBasisOf, IsDeviceOf, IsEdge, AreEdges, IsNext, AreStated, AreInTables}
@@ -40,7 +41,7 @@ KeepsFound found old new = (new ≡ old) ⊎ IsOkAnd found (λ row. new ≡ row)
 
 -- what is kept after a device was read: what was kept before, or the device that was found, under the number that it was looked up by
 abbrev pub KeepsDevice : Result (Option DeviceRow) Error → List ℕ → Option KnownDevice → Option KnownDevice → Type 0
-KeepsDevice found gsrn old new = (new ≡ old) ⊎ IsOkAnd found (λ row. IsSomeAnd row (λ r. new ≡ Some (record { gsrn = gsrn; device = device_of (device_in r) })))
+KeepsDevice found gsrn old new = (new ≡ old) ⊎ IsOkAnd found (λ row. IsSomeAnd row (λ r. new ≡ Some (record { gsrn = gsrn; device = device_of (device_in r); last_day = (progress_in (Some (device_in r))).last_day })))
 
 -- the lot that a piece names is beside it
 abbrev pub IsBeside : List Lot → PieceRow × Lot → Type 0
@@ -87,9 +88,15 @@ row-prop (Some row) t a b = Coded-set coded_meta _ _ a b
 known-prop : (a b : Option Device) → IsProp (a ≡ b)
 known-prop a b = Prim.hlevel props
 
+day-prop : (a b : Option CalendarDay) → IsProp (a ≡ b)
+day-prop a b = Prim.hlevel props
+
 device-prop : (device : Option KnownDevice) (t : Tables) → IsProp (IsDeviceOf device t)
 device-prop None t a b = λ i. tt
-device-prop (Some known) t a b = known-prop (get (state_of t).devices known.gsrn) (Some known.device) a b
+device-prop (Some known) t a b = λ i. (
+  known-prop (get (state_of t).devices known.gsrn) (Some known.device) a.0 b.0 i,
+  day-prop (progress_in (device_row t.devices known.gsrn)).last_day known.last_day a.1 b.1 i,
+)
 
 lot-prop : (a b : Option LotFields) → IsProp (a ≡ b)
 lot-prop a b = Prim.hlevel props
@@ -102,6 +109,7 @@ basis-prop known t a b = λ i. record {
   device = device-prop known.device t a.device b.device i;
   number = next-prop known.number declaration_key t.declarations a.number b.number i;
   next_lot = next-prop known.next_lot lot_key t.lots a.next_lot b.next_lot i;
+  correction = next-prop known.correction correction_key t.corrections a.correction b.correction i;
 }
 
 same-prop : (a b : Bool) → IsProp (a ≡ b)

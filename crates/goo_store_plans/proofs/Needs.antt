@@ -52,7 +52,7 @@ module _ (t : Tables) (kept : AreKept t) (plan : Plan) (fits : Fits (state_of t)
       declares = λ meta x same is.
           let left = subst (HasRoomFor t) is room in
           can_be_answered t kept plan.request.caller x (refused_none (Declare x) is) meta same basis basis_is left.0 left.1 plan.reply (ap (reply_to (state_of t)) (sym is) ∙ reply_is);
-      corrects = λ meta x same is. can_answer_correction t kept plan.request.caller x (refused_none (Correct x) is) meta same (subst (HasRoomFor t) is room) plan.reply (ap (reply_to (state_of t)) (sym is) ∙ reply_is);
+      corrects = λ meta x same is. can_answer_correction t kept plan.request.caller x (refused_none (Correct x) is) meta same basis basis_is (subst (HasRoomFor t) is room) plan.reply (ap (reply_to (state_of t)) (sym is) ∙ reply_is);
       takes = takes;
     }
 

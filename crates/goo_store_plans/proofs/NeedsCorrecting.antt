@@ -17,6 +17,8 @@ use Rattle.goo_spec_tables.specs.Readable.{is_act, is_meta}
 use Rattle.goo_spec_tables.specs.States.{state_of}
 use Rattle.goo_store_plans.specs.AtHand.{HasRoom}
 use Rattle.goo_store_plans.specs.Correcting.{CanAnswerCorrection, CanTakeOut, IsBasis}
+use Rattle.goo_store_plans.specs.Found.{IsBasisOf}
+use Rattle.goo_store_plans.specs.declared.known_rows.KnownBasis.{KnownBasis}
 use Rattle.goo_store_plans.specs.Progressing.{HasEnded}
 use Rattle.goo_store_plans.specs.declared.correction_basis.CorrectionBasis.{CorrectionBasis}
 use Rattle.goo_store_plans.proofs.Lowered.{has_ended}
@@ -44,14 +46,15 @@ module _ (t : Tables) (kept : AreKept t) (caller : List ℕ) (x : Correct) (none
   takes None is = tt
   takes (Some range) is = subst (λ (m : row.Meta). IsTrue (is_act m.next_withdrawal)) same (withdrawal_left s kept.sound caller (record { range = range; reason = x.reason }) (withdrawal_passes s caller x range is none))
 
-  pub can_answer_correction : HasRoom 1 correction_key t.corrections → (reply : Reply) → correct_reply s x ≡ reply → CanAnswerCorrection t meta x reply
+  pub can_answer_correction : (basis : KnownBasis) → IsBasisOf basis t → HasRoom 1 correction_key t.corrections → (reply : Reply) → correct_reply s x ≡ reply → CanAnswerCorrection t basis meta x reply
   unfolding correct_reply
-  can_answer_correction room reply states = record {
+  can_answer_correction basis is room reply states = record {
     carry = (remaining s x.device - x.less) % certificate;
     count = count_in x.range;
     withdrawal = withdrawal_for s x.range;
     reply_is = sym states;
     can = record {
+      kept_is = is;
       row = ap is_meta (sym same) ∙ kept.readable.meta;
       takes = takes x.range refl;
       carry_fits = omega arith;

@@ -1,10 +1,11 @@
--- The next numbers of declarations and lots, after changes.
+-- The next numbers of declarations, lots and corrections, after changes.
 use Rattle.std.proofs.Common.{◌≡◌, ◌≢◌, ◌+◌, ℕ, ℤ, pos, ◌+ℤ◌, List, ◌∷◌, [], ◌++◌, Option, Some, None, refl, ap, sym, subst, ◌∙◌}
 use Rattle.std.specs.Prelude.{IfSome, fold}
 use Rattle.sqlite_keyed.specs.Keyed.{IsKeyedBy, insert_by, next_key}
 use Rattle.sqlite_keyed.proofs.KeyedLemmas.{IsKeyedBy-insert_by}
 use Rattle.sqlite_keyed.proofs.SliceLemmas.{insert_next}
-use Rattle.goo_tables_rows.specs.Rows.{Tables, declaration_in, declaration_key, lot_in, lot_key}
+use Rattle.goo_tables_rows.specs.Rows.{Tables, correction_in, correction_key, declaration_in, declaration_key, lot_in, lot_key}
+use Rattle.goo_tables_rows.specs.declared.correction.CorrectionRow.{CorrectionRow}
 use Rattle.goo_tables_rows.specs.declared.declaration.DeclarationRow.{DeclarationRow}
 use Rattle.goo_tables_rows.specs.declared.lot.LotRow.{LotRow}
 use Rattle.goo_store_changes.specs.Changes.{made}
@@ -29,43 +30,44 @@ next_after {X = X} key xs x taken known (Some n) key_is rise is so =
     at_end ys = last (pos 1) ys
 
 -- no other change touches these rows
-pub others : (t : Tables) (change : TableChange) → ((row : DeclarationRow) → change ≢ AddDeclaration row) → ((row : LotRow) → change ≢ AddLot row) → ((made t change).declarations ≡ t.declarations) × ((made t change).lots ≡ t.lots)
-others t (AddHolder row) other not = (refl, refl)
-others t (AddAccount row) other not = (refl, refl)
-others t (CloseAccount number) other not = (refl, refl)
-others t (AddDevice row) other not = (refl, refl)
-others t (AddDeclaration row) other not = absurd (other row refl)
-others t (SetProgress device last_day carry) other not = (refl, refl)
-others t (AddLot row) other not = absurd (not row refl)
-others t (DeletePiece first) other not = (refl, refl)
-others t (InsertPiece row) other not = (refl, refl)
-others t (AddPeer row) other not = (refl, refl)
-others t (AddReceipt row) other not = (refl, refl)
-others t (AddCancellation row) other not = (refl, refl)
-others t (AddWithdrawal row) other not = (refl, refl)
-others t (AddNoticeOut row) other not = (refl, refl)
-others t (AddNoticeIn row) other not = (refl, refl)
-others t (AddCorrection row) other not = (refl, refl)
-others t (SetToday day) other not = (refl, refl)
-others t (SetCounters counters) other not = (refl, refl)
+pub others : (t : Tables) (change : TableChange) → ((row : DeclarationRow) → change ≢ AddDeclaration row) → ((row : LotRow) → change ≢ AddLot row) → ((row : CorrectionRow) → change ≢ AddCorrection row)
+    → ((made t change).declarations ≡ t.declarations) × ((made t change).lots ≡ t.lots) × ((made t change).corrections ≡ t.corrections)
+others t (AddHolder row) other not nor = (refl, refl, refl)
+others t (AddAccount row) other not nor = (refl, refl, refl)
+others t (CloseAccount number) other not nor = (refl, refl, refl)
+others t (AddDevice row) other not nor = (refl, refl, refl)
+others t (AddDeclaration row) other not nor = absurd (other row refl)
+others t (SetProgress device last_day carry) other not nor = (refl, refl, refl)
+others t (AddLot row) other not nor = absurd (not row refl)
+others t (DeletePiece first) other not nor = (refl, refl, refl)
+others t (InsertPiece row) other not nor = (refl, refl, refl)
+others t (AddPeer row) other not nor = (refl, refl, refl)
+others t (AddReceipt row) other not nor = (refl, refl, refl)
+others t (AddCancellation row) other not nor = (refl, refl, refl)
+others t (AddWithdrawal row) other not nor = (refl, refl, refl)
+others t (AddNoticeOut row) other not nor = (refl, refl, refl)
+others t (AddNoticeIn row) other not nor = (refl, refl, refl)
+others t (AddCorrection row) other not nor = absurd (nor row refl)
+others t (SetToday day) other not nor = (refl, refl, refl)
+others t (SetCounters counters) other not nor = (refl, refl, refl)
 
 -- the rows come in their order still
 pub numbered_still : (t : Tables) (change : TableChange) → AreNumbered t → AreNumbered (made t change)
-numbered_still t (AddHolder row) is = record { declarations = is.declarations; lots = is.lots }
-numbered_still t (AddAccount row) is = record { declarations = is.declarations; lots = is.lots }
-numbered_still t (CloseAccount number) is = record { declarations = is.declarations; lots = is.lots }
-numbered_still t (AddDevice row) is = record { declarations = is.declarations; lots = is.lots }
-numbered_still t (AddDeclaration row) is = record { declarations = IsKeyedBy-insert_by declaration_key t.declarations (declaration_in row) is.declarations; lots = is.lots }
-numbered_still t (SetProgress device last_day carry) is = record { declarations = is.declarations; lots = is.lots }
-numbered_still t (AddLot row) is = record { declarations = is.declarations; lots = IsKeyedBy-insert_by lot_key t.lots (lot_in row) is.lots }
-numbered_still t (DeletePiece first) is = record { declarations = is.declarations; lots = is.lots }
-numbered_still t (InsertPiece row) is = record { declarations = is.declarations; lots = is.lots }
-numbered_still t (AddPeer row) is = record { declarations = is.declarations; lots = is.lots }
-numbered_still t (AddReceipt row) is = record { declarations = is.declarations; lots = is.lots }
-numbered_still t (AddCancellation row) is = record { declarations = is.declarations; lots = is.lots }
-numbered_still t (AddWithdrawal row) is = record { declarations = is.declarations; lots = is.lots }
-numbered_still t (AddNoticeOut row) is = record { declarations = is.declarations; lots = is.lots }
-numbered_still t (AddNoticeIn row) is = record { declarations = is.declarations; lots = is.lots }
-numbered_still t (AddCorrection row) is = record { declarations = is.declarations; lots = is.lots }
-numbered_still t (SetToday day) is = record { declarations = is.declarations; lots = is.lots }
-numbered_still t (SetCounters counters) is = record { declarations = is.declarations; lots = is.lots }
+numbered_still t (AddHolder row) is = record { declarations = is.declarations; lots = is.lots; corrections = is.corrections }
+numbered_still t (AddAccount row) is = record { declarations = is.declarations; lots = is.lots; corrections = is.corrections }
+numbered_still t (CloseAccount number) is = record { declarations = is.declarations; lots = is.lots; corrections = is.corrections }
+numbered_still t (AddDevice row) is = record { declarations = is.declarations; lots = is.lots; corrections = is.corrections }
+numbered_still t (AddDeclaration row) is = record { declarations = IsKeyedBy-insert_by declaration_key t.declarations (declaration_in row) is.declarations; lots = is.lots; corrections = is.corrections }
+numbered_still t (SetProgress device last_day carry) is = record { declarations = is.declarations; lots = is.lots; corrections = is.corrections }
+numbered_still t (AddLot row) is = record { declarations = is.declarations; lots = IsKeyedBy-insert_by lot_key t.lots (lot_in row) is.lots; corrections = is.corrections }
+numbered_still t (DeletePiece first) is = record { declarations = is.declarations; lots = is.lots; corrections = is.corrections }
+numbered_still t (InsertPiece row) is = record { declarations = is.declarations; lots = is.lots; corrections = is.corrections }
+numbered_still t (AddPeer row) is = record { declarations = is.declarations; lots = is.lots; corrections = is.corrections }
+numbered_still t (AddReceipt row) is = record { declarations = is.declarations; lots = is.lots; corrections = is.corrections }
+numbered_still t (AddCancellation row) is = record { declarations = is.declarations; lots = is.lots; corrections = is.corrections }
+numbered_still t (AddWithdrawal row) is = record { declarations = is.declarations; lots = is.lots; corrections = is.corrections }
+numbered_still t (AddNoticeOut row) is = record { declarations = is.declarations; lots = is.lots; corrections = is.corrections }
+numbered_still t (AddNoticeIn row) is = record { declarations = is.declarations; lots = is.lots; corrections = is.corrections }
+numbered_still t (AddCorrection row) is = record { declarations = is.declarations; lots = is.lots; corrections = IsKeyedBy-insert_by correction_key t.corrections (correction_in row) is.corrections }
+numbered_still t (SetToday day) is = record { declarations = is.declarations; lots = is.lots; corrections = is.corrections }
+numbered_still t (SetCounters counters) is = record { declarations = is.declarations; lots = is.lots; corrections = is.corrections }

@@ -19,7 +19,9 @@ use Rattle.goo_store_plans.specs.Progressing.{HasEnded, SetsProgress}
 use Rattle.goo_store_plans.specs.Room.{HaveRowids}
 use Rattle.goo_store_changes.specs.declared.table_change.TableChange.{TableChange}
 use Rattle.goo_store_changes.specs.declared.table_change.TableChange.TheVariants.{AddCorrection}
+use Rattle.goo_store_plans.specs.Found.{IsBasisOf}
 use Rattle.goo_store_plans.specs.declared.correction_basis.CorrectionBasis.{CorrectionBasis}
+use Rattle.goo_store_plans.specs.declared.known_rows.KnownBasis.{KnownBasis}
 
 -- where the device's last period ends, and the number that a correction gets
 pub record IsBasis (t : Tables) (gsrn : List ℕ) (x : CorrectionBasis) : Type 0 where
@@ -62,8 +64,9 @@ pub record HasBasis (t : Tables) (gsrn : List ℕ) : Type 0 where
   pub ended : HasEnded t gsrn
   pub corrections : HasRoom 0 correction_key t.corrections
 
--- and whatever the correction takes is within its limits
-pub record CanBeCorrected (t : Tables) (meta : MetaRow) (x : Correct) (carry : ℕ) : Type 0 where
+-- what is kept of its basis is so, and whatever the correction takes is within its limits
+pub record CanBeCorrected (t : Tables) (kept : KnownBasis) (meta : MetaRow) (x : Correct) (carry : ℕ) : Type 0 where
+  pub kept_is : IsBasisOf kept t
   pub row : IsTrue (is_meta (meta_in meta))
   pub takes : CanTakeOut meta x.range
   pub carry_fits : carry < 2 ^ 63
@@ -71,9 +74,9 @@ pub record CanBeCorrected (t : Tables) (meta : MetaRow) (x : Correct) (carry : �
   pub corrections : HasRoom 1 correction_key t.corrections
 
 -- so by the reply, which is a correction's
-pub record CanAnswerCorrection (t : Tables) (meta : MetaRow) (x : Correct) (reply : Reply) : Type 0 where
+pub record CanAnswerCorrection (t : Tables) (kept : KnownBasis) (meta : MetaRow) (x : Correct) (reply : Reply) : Type 0 where
   pub carry : ℕ
   pub count : ℕ
   pub withdrawal : Option ℕ
   pub reply_is : reply ≡ Corrected carry count withdrawal
-  pub can : CanBeCorrected t meta x carry
+  pub can : CanBeCorrected t kept meta x carry

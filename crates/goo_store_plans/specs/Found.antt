@@ -5,8 +5,9 @@ use Rattle.std.specs.List.{list_any}
 use Rattle.sqlite_keyed.specs.Keyed.{IsKeyedBy, get_by, next_key}
 use Rattle.goo_types.specs.declared.lot_fields.LotFields.{LotFields}
 use Rattle.goo_types.specs.declared.piece.Piece.{Piece}
-use Rattle.goo_tables_rows.specs.Rows.{Tables, Lot, declaration_key, lot_key, meta_in}
+use Rattle.goo_tables_rows.specs.Rows.{Tables, Lot, correction_key, declaration_key, lot_key, meta_in}
 use Rattle.goo_tables_rows.specs.declared.meta.MetaRow.{MetaRow}
+use Rattle.goo_spec_tables.specs.Devices.{device_row, progress_in}
 use Rattle.goo_spec_tables.specs.Places.{lot_of, rows_of}
 use Rattle.goo_spec_tables.specs.States.{state_of}
 use Rattle.goo_store_plans.specs.declared.known_rows.Edges.{Edges}
@@ -20,32 +21,35 @@ abbrev pub IsRowOf : Option MetaRow → Tables → Type 0
 IsRowOf None t = Unit {0}
 IsRowOf (Some row) t = t.meta ≡ meta_in row
 
--- where a device is kept, it is registered under its number
+-- where a device is kept, it is registered under its number, and its last accepted period ends on that day
 abbrev pub IsDeviceOf : Option KnownDevice → Tables → Type 0
 IsDeviceOf None t = Unit {0}
-IsDeviceOf (Some known) t = get (state_of t).devices known.gsrn ≡ Some known.device
+IsDeviceOf (Some known) t = (get (state_of t).devices known.gsrn ≡ Some known.device) × ((progress_in (device_row t.devices known.gsrn)).last_day ≡ known.last_day)
 
 -- where the number of a table's next row is kept, it is one above the last
 abbrev pub IsNext : {X : Type 0} → Option ℕ → (X → ℤ) → List X → Type 0
 IsNext None key rows = Unit {0}
 IsNext (Some n) key rows = pos n ≡ next_key key rows
 
--- what is known of the basis of a declaration is so in the tables
+-- what is known of the basis of a declaration or of a correction is so in the tables
 pub record IsBasisOf (known : KnownBasis) (t : Tables) : Type 0 where
   pub device : IsDeviceOf known.device t
   pub number : IsNext known.number declaration_key t.declarations
   pub next_lot : IsNext known.next_lot lot_key t.lots
+  pub correction : IsNext known.correction correction_key t.corrections
 
 -- the rows that have these numbers come in their order
 pub record AreNumbered (t : Tables) : Type 0 where
   pub declarations : IsKeyedBy declaration_key t.declarations
   pub lots : IsKeyedBy lot_key t.lots
+  pub corrections : IsKeyedBy correction_key t.corrections
 
 -- nothing is known
 pub record IsNoBasis (known : KnownBasis) : Type 0 where
   pub device : known.device ≡ None
   pub number : known.number ≡ None
   pub next_lot : known.next_lot ≡ None
+  pub correction : known.correction ≡ None
 
 -- the row under the number states the lot
 abbrev pub IsStated : List Lot → ℕ → LotFields → Type 0

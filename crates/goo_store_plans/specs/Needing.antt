@@ -17,5 +17,5 @@ use Rattle.goo_store_plans.specs.declared.known_rows.KnownBasis.{KnownBasis}
 pub record CanGoByRow (t : Tables) (own : Option MetaRow) (kept : KnownBasis) (plan : Plan) : Type 0 where
   pub own_is : IsRowOf own t
   pub declares : (meta : MetaRow) (x : Declare) → t.meta ≡ meta_in meta → plan.request.command ≡ command.Declare x → CanBeAnswered t kept meta x plan.reply
-  pub corrects : (meta : MetaRow) (x : Correct) → t.meta ≡ meta_in meta → plan.request.command ≡ command.Correct x → CanAnswerCorrection t meta x plan.reply
+  pub corrects : (meta : MetaRow) (x : Correct) → t.meta ≡ meta_in meta → plan.request.command ≡ command.Correct x → CanAnswerCorrection t kept meta x plan.reply
   pub takes : (meta : MetaRow) → t.meta ≡ meta_in meta → ((x : Declare) → plan.request.command ≢ command.Declare x) → ((x : Correct) → plan.request.command ≢ command.Correct x) → CanTakeNumber meta plan.request.command plan.notice

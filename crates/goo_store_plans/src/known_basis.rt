@@ -1,9 +1,9 @@
-//! What is known of the basis of a declaration, from one commit to the next: no number is looked up
-//! twice.
+//! What is known of the basis of a declaration or of a correction, from one commit to the next: no
+//! number is looked up twice.
 
 ghost use Rattle.std.specs.Prelude.{◌≡◌, ◌+◌, ◌<◌, ◌^◌, false, Some, IfSome};
 ghost use Rattle.sqlite.specs.Held.{state};
-ghost use Rattle.goo_tables_rows.specs.Rows.{Tables, lot_key, declaration_key};
+ghost use Rattle.goo_tables_rows.specs.Rows.{Tables, lot_key, correction_key, declaration_key};
 ghost use Rattle.goo_store_changes.specs.Changes.{made, made_all};
 ghost use Rattle.goo_store_plans.specs.AtHand.{HasRoom};
 ghost use Rattle.goo_store_plans.specs.Carried.{AreInOrder};
@@ -12,6 +12,7 @@ ghost use Rattle.goo_store_plans.specs.LookingUp.{LooksUp};
 ghost use Rattle.goo_store_plans.specs.PlanNeeds.{HasRoomFor};
 ghost use Rattle.goo_store_plans.specs.StoreFaults.{BlamesDisk};
 
+use crate::correction_basis::next_correction_number;
 use crate::gathered_lots::next_lot_number;
 use crate::known_rows::KnownBasis;
 use crate::standing::next_declaration_number;
@@ -35,9 +36,8 @@ fn with_next_lot<S: Alter>(
 {
     let next_lot = next_lot_number(alloc, conn, known.next_lot)?;
     Ok(KnownBasis {
-        device: known.device,
-        number: known.number,
         next_lot: Some(next_lot),
+        ..known
     })
 }
 
@@ -55,9 +55,27 @@ fn with_number<S: Alter>(
 {
     let number = next_declaration_number(alloc, conn, known.number)?;
     Ok(KnownBasis {
-        device: known.device,
         number: Some(number),
-        next_lot: known.next_lot,
+        ..known
+    })
+}
+
+/// What is known, and the number that the next correction gets.
+fn with_correction<S: Alter>(
+    alloc: Global,
+    conn: &mut Connection<S>,
+    known: KnownBasis,
+) -> Result<KnownBasis, StatementFault>
+    ensures looks { LooksUp (state S.Store conn.old) (state S.Store conn.new) result
+        (λ t found. IsBasisOf known t → IsBasisOf found t) }
+    ensures blames { BlamesDisk (state S.Store conn.old) (state S.Store conn.new) result
+        (λ t. HasRoom 0 correction_key t.corrections) }
+    ensures outside { conn.old.in_transaction ≡ false → conn.new.in_transaction ≡ false }
+{
+    let correction = next_correction_number(alloc, conn, known.correction)?;
+    Ok(KnownBasis {
+        correction: Some(correction),
+        ..known
     })
 }
 
@@ -77,7 +95,7 @@ fn with_both<S: Alter>(
     with_next_lot(alloc, conn, known)
 }
 
-/// What is known, and the numbers of declarations and lots that a command takes.
+/// What is known, and the numbers of declarations, lots and corrections that a command takes.
 pub(crate) fn with_numbers<S: Alter>(
     alloc: Global,
     conn: &mut Connection<S>,
@@ -93,6 +111,7 @@ pub(crate) fn with_numbers<S: Alter>(
     match command {
         Command::Declare(_) => with_both(alloc, conn, known),
         Command::Import(_) => with_next_lot(alloc, conn, known),
+        Command::Correct(_) => with_correction(alloc, conn, known),
         _ => Ok(known),
     }
 }
@@ -117,17 +136,21 @@ fn after_change(known: KnownBasis, change: &TableChange) -> KnownBasis
         TableChange::AddDeclaration(row) => KnownBasis {
             device: None,
             number: number_after(known.number, row.id),
-            next_lot: known.next_lot,
+            ..known
         },
         TableChange::AddLot(row) => KnownBasis {
             device: None,
-            number: known.number,
             next_lot: number_after(known.next_lot, row.id),
+            ..known
+        },
+        TableChange::AddCorrection(row) => KnownBasis {
+            device: None,
+            correction: number_after(known.correction, row.id),
+            ..known
         },
         _ => KnownBasis {
             device: None,
-            number: known.number,
-            next_lot: known.next_lot,
+            ..known
         },
     }
 }

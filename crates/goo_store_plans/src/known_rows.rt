@@ -5,6 +5,7 @@ ghost use Rattle.goo_store_plans.specs.Found.{AreNone, IsNoBasis};
 use crate::lot_numbers::NumberedLot;
 use goo_core_shelf::device::Device;
 use goo_tables_rows::meta::MetaRow;
+use goo_types::day::Day;
 use goo_types::gsrn::Gsrn;
 use std::alloc::Global;
 
@@ -15,9 +16,11 @@ pub struct KnownDevice {
     pub gsrn: Gsrn,
     /// The device.
     pub device: Device,
+    /// The last day of its last accepted period, if it has one.
+    pub last_day: Option<Day>,
 }
 
-/// What is known of the basis of a declaration before it is looked up.
+/// What is known of the basis of a declaration or of a correction before it is looked up.
 #[derive(Clone, Copy)]
 pub struct KnownBasis {
     /// The device whose record was found last.
@@ -26,6 +29,8 @@ pub struct KnownBasis {
     pub number: Option<u64>,
     /// The number that the next lot gets.
     pub next_lot: Option<u64>,
+    /// The number that the next correction gets.
+    pub correction: Option<u64>,
 }
 
 /// Numbers at which rows are known to end: no row reaches above one of them from below.
@@ -43,7 +48,7 @@ pub struct Edges {
 pub struct KnownRows {
     /// The registry's row.
     pub own: Option<MetaRow>,
-    /// What is known of the basis of a declaration.
+    /// What is known of the basis of a declaration or of a correction.
     pub basis: KnownBasis,
     /// Some lots that were found by their keys or beside rows that name them, under their numbers.
     pub lots: Vec<NumberedLot>,
@@ -60,6 +65,7 @@ impl KnownBasis {
             device: None,
             number: None,
             next_lot: None,
+            correction: None,
         }
     }
 }

@@ -17,6 +17,7 @@ ghost use Rattle.goo_store_plans.specs.Carried.{AreInOrder, Carry, Does};
 ghost use Rattle.goo_store_changes.specs.Changes.{ChangeFits};
 ghost use Rattle.goo_store_plans.specs.Correcting.{CanBeCorrected, CanTakeOut, IsBasis, Lowers};
 ghost use Rattle.goo_store_plans.specs.Correcting.{TakesOut};
+ghost use Rattle.goo_store_plans.specs.Found.{IsBasisOf};
 ghost use Rattle.goo_store_plans.specs.LookingUp.{LooksUp};
 ghost use Rattle.goo_store_plans.specs.StoreFaults.{BlamesDisk};
 ghost use Rattle.goo_store_values.specs.declared.statement_fault.StatementFault.TheVariants.{Memory};
@@ -24,6 +25,7 @@ ghost use Rattle.goo_store_values.specs.declared.statement_fault.StatementFault.
 use crate::act_changes::withdraw;
 use crate::correction_basis::{CorrectionBasis, find_basis};
 use crate::device_progress::progress_change;
+use crate::known_rows::KnownBasis;
 use crate::new_rows::{act_or_zero, day_string};
 use goo_store_changes::table_change::TableChange;
 use goo_store_values::statement_fault::StatementFault;
@@ -137,7 +139,7 @@ fn corrected_changes(
 }
 
 /// What an accepted correction changes, by the carry in Wh and the withdrawal that its reply
-/// states.
+/// states. What is known of its basis isn't looked up.
 ///
 /// # Errors
 ///
@@ -147,19 +149,20 @@ pub fn correct_changes<S: Alter>(
     alloc: Global,
     conn: &mut Connection<S>,
     meta: &MetaRow,
+    known: KnownBasis,
     accepted: &Correct,
     carry: u64,
     withdrawal: Option<ActNo>,
 ) -> Result<Vec<TableChange>, StatementFault>
     ensures looks { LooksUp (state S.Store conn.old) (state S.Store conn.new) result
-        (λ t changes. (count : ℕ) → t.meta ≡ meta_in meta.now
+        (λ t changes. (count : ℕ) → t.meta ≡ meta_in meta.now → IsBasisOf known t
         → correct_reply (state_of t) accepted.now ≡ Corrected carry count withdrawal
         → Does t (command.Correct accepted.now) changes.items) }
     ensures blames { BlamesDisk (state S.Store conn.old) (state S.Store conn.new) result
-        (λ t. CanBeCorrected t meta.now accepted.now carry) }
+        (λ t. CanBeCorrected t known meta.now accepted.now carry) }
     ensures fits { IfOk result (λ changes. All ChangeFits changes.items) }
     ensures outside { conn.old.in_transaction ≡ false → conn.new.in_transaction ≡ false }
 {
-    let basis = find_basis(alloc, conn, &accepted.device)?;
+    let basis = find_basis(alloc, conn, known, &accepted.device)?;
     corrected_changes(alloc, meta, accepted, carry, withdrawal, &basis)
 }

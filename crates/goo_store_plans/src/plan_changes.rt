@@ -47,7 +47,8 @@ use goo_types::reply::Reply;
 use sqlite::{Alter, Connection};
 use std::alloc::Global;
 
-/// Changes of the tables, and what is known of the basis of a declaration once they are made.
+/// Changes of the tables, and what is known of the basis of a declaration or of a correction once
+/// they are made.
 #[derive(Drop)]
 pub struct Planned {
     /// The changes.
@@ -126,16 +127,17 @@ fn correction<S: Alter>(
     alloc: Global,
     conn: &mut Connection<S>,
     meta: &MetaRow,
+    basis: KnownBasis,
     accepted: &Correct,
     reply: Reply,
 ) -> Result<Gathered, StatementFault>
     ensures looks { LooksUp (state S.Store conn.old) (state S.Store conn.new) result
         (λ t gathered. (q : Request) → q.command ≡ Command.Correct accepted.now
-        → t.meta ≡ meta_in meta.now → AreInOrder t → IsAccepted t q reply
+        → t.meta ≡ meta_in meta.now → IsBasisOf basis t → AreInOrder t → IsAccepted t q reply
         → CarriesOut t q.command gathered) }
     ensures fits { IfOk result (λ gathered. All ChangeFits gathered.changes.items) }
     ensures blames { BlamesDisk (state S.Store conn.old) (state S.Store conn.new) result
-        (λ t. CanAnswerCorrection t meta.now accepted.now reply) }
+        (λ t. CanAnswerCorrection t basis meta.now accepted.now reply) }
     ensures outside { conn.old.in_transaction ≡ false → conn.new.in_transaction ≡ false }
 {
     match reply {
@@ -144,7 +146,7 @@ fn correction<S: Alter>(
             count: _,
             withdrawal,
         } => {
-            let changes = correct_changes(alloc, conn, meta, accepted, carry, withdrawal)?;
+            let changes = correct_changes(alloc, conn, meta, basis, accepted, carry, withdrawal)?;
             Ok(without_lots(alloc, changes))
         }
         _ => Err(StatementFault::Refused),
@@ -170,7 +172,7 @@ fn by_own_row<S: Alter>(
     let meta = known_row(alloc, conn, own)?;
     match &plan.request.command {
         Command::Declare(command) => { declaration(alloc, conn, &meta, basis, command, plan.reply) }
-        Command::Correct(command) => correction(alloc, conn, &meta, command, plan.reply),
+        Command::Correct(command) => correction(alloc, conn, &meta, basis, command, plan.reply),
         _ => numbered(alloc, &meta, plan),
     }
 }

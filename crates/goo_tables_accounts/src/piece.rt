@@ -64,6 +64,57 @@ pub fn insert_piece<S: Alter>(tx: &mut Transaction<'_, S>, piece: &PieceRow) -> 
     )
 }
 
+/// Adds two pieces by one statement. The first number of each must be that of no other piece.
+///
+/// # Errors
+///
+/// In a registry's transaction, where the first numbers are new and differ: a failure of memory or
+/// of the disk, or of a connection that an earlier failure shut, or `TooBig` for a row that is too
+/// big to be stored. Nothing is committed.
+pub fn insert_two_pieces<S: Alter>(
+    tx: &mut Transaction<'_, S>,
+    first: &PieceRow,
+    second: &PieceRow,
+) -> Result<usize, Error>
+    requires first_fits { PieceFits first.now }
+    requires second_fits { PieceFits second.now }
+    ensures same_reference { tx.new.conn.ghost_name ≡ tx.old.conn.ghost_name }
+    ensures changed { HasCleanDisk (state S.Store tx.new.conn.now) → (t : Tables)
+        → Sees (state S.Store tx.old.conn.now) t
+        → OnOk result
+        (Sees (state S.Store tx.new.conn.now) (with_piece (with_piece t first.now) second.now)) }
+    ensures refused { ChangeFailsBy IsTooBig
+        (λ _. IsSmall (piece_row first.now) × IsSmall (piece_row second.now))
+        (state S.Store tx.old.conn.now) (state S.Store tx.new.conn.now) result
+        (λ t. (get_by piece_key t.pieces (pos first.now.first) ≡ None)
+        × (get_by piece_key (with_piece t first.now).pieces (pos second.now.first) ≡ None)) }
+    ensures live { LeavesLive (state S.Store tx.old.conn.now)
+        (state S.Store tx.new.conn.now) result }
+    ensures uncommitted { HasCleanDisk (state S.Store tx.new.conn.now)
+        → KeepsCommit (state S.Store tx.old.conn.now) (state S.Store tx.new.conn.now) }
+    ensures survives { Survives (state S.Store tx.old.conn.now) (state S.Store tx.new.conn.now)
+        (λ _. ⊥) }
+{
+    put(
+        tx,
+        "INSERT INTO piece (first, last, lot, kind, account, act) VALUES (?1, ?2, ?3, ?4, ?5, ?6), (?7, ?8, ?9, ?10, ?11, ?12)",
+        &[
+            number(first.first),
+            number(first.last),
+            number(first.lot),
+            small(first.kind),
+            small(first.account),
+            small(first.act),
+            number(second.first),
+            number(second.last),
+            number(second.lot),
+            small(second.kind),
+            small(second.account),
+            small(second.act),
+        ],
+    )
+}
+
 /// Puts the piece in the place of the one that begins with the same number; how many of these there
 /// were, one at most.
 ///

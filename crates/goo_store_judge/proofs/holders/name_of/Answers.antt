@@ -4,7 +4,7 @@ use Rattle.std.specs.Cmp.Lexicographic.{nat_list_cmp_total}
 use Rattle.goo_spec_tables.specs.States.{state_of}
 use Rattle.sqlite_typed.specs.Tests.{bytes_eq}
 use Rattle.goo_spec_tables.proofs.Known.{known_kept, text_test}
-use Rattle.goo_store_judge.proofs.Looking.{looked, refused_look, well, before, tables_same}
+use Rattle.goo_store_judge.proofs.Looking.{answered, looked, refused_look, well, before, tables_same}
 use Rattle.goo_store_judge.proofs.Blaming.{blames}
 use Rattle.goo_store_values.proofs.RowsRead.{found_part, each_so}
 use Rattle.goo_spec_tables.specs.Readable.{is_holder}
@@ -27,6 +27,11 @@ returns-clause-store g c =
     blames (view g.S.Store c.args.conn.now) (view g.S.Store c.find_holder-found.new.conn) c.requires.well _ _ c.find_holder-found.ensures.looks _ _ c.name_in.result c.args.refused.now c.note_fault.new.refused c.note_fault.result
     c.find_holder-found.ensures.readable c.name_in.ensures.accepts c.note_fault.ensures (λ can. can.holders)
     (λ stands kept row found. found_part (λ k. k.1) holder_in (λ r. IsTrue (is_holder (pos 0, r))) _ (tables_in (view g.S.Store c.args.conn.now)).holders (each_so is_holder (λ k. IsTrue (is_holder k)) (λ _ good. good) (tables_in (view g.S.Store c.args.conn.now)).holders kept.readable.holders) row found)
+
+pub returns-clause-works : goal.returns-clause-works
+returns-clause-works g c =
+    answered (view g.S.Store c.args.conn.now) (view g.S.Store c.find_holder-found.new.conn) c.requires.well _ _ c.find_holder-found.ensures.looks _ c.name_in.result
+    c.args.refused.now c.note_fault.new.refused c.note_fault.result c.name_in.ensures.value c.note_fault.ensures
 
 pub returns-clause-well : goal.returns-clause-well
 returns-clause-well g c = well (view g.S.Store c.args.conn.now) (view g.S.Store c.find_holder-found.new.conn) c.requires.well _ _ c.find_holder-found.ensures.looks

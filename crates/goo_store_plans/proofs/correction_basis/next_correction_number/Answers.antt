@@ -1,19 +1,17 @@
-use Rattle.std.proofs.Common.{pos, ap, option_map, ◌∙◌}
+use Rattle.std.proofs.Common.{Ok, subst}
 use Rattle.sqlite.specs.Held.{state}
-use Rattle.goo_store_plans.specs.LotRows.{next_correction}
-use Rattle.goo_store_plans.proofs.Gathering.{next_correction_is}
-use Rattle.goo_store_plans.proofs.LookUps.{looked_up}
-use Rattle.goo_tables_rows.specs.Rows.{correction_in}
-use Rattle.goo_store_plans.proofs.Refusing.{blames_read, low_correction}
+use Rattle.goo_tables_rows.specs.Rows.{correction_key}
+use Rattle.goo_store_plans.specs.Found.{IsNext}
+use Rattle.goo_store_plans.proofs.LookUps.{looks_none, looks_so}
+use Rattle.goo_store_plans.proofs.Refusing.{blames_none}
 use Rattle.goo_store_plans.proofs.correction_basis.next_correction_number.Goals as goal
 
-pub returns-clause-looks : goal.returns-clause-looks
-returns-clause-looks g c =
-    looked_up (state g.S.Store c.args.conn.now) (state g.S.Store c.last_correction-found.new.conn) _ _ c.last_correction-found.ensures.looks _ _ c.number_after.result c.number_after.ensures.value
-    (λ t stands found n right read. ap pos (read ∙ ap next_correction right) ∙ next_correction_is t.corrections)
+pub returns-in-Some-clause-looks : goal.returns-in-Some-clause-looks
+returns-in-Some-clause-looks g c = looks_none (state g.S.Store c.args.conn.now) (Ok c.in-Some.number) _ (λ t it next. subst (λ o. IsNext o correction_key t.corrections) c.in-Some.is next)
 
-pub returns-clause-blames : goal.returns-clause-blames
-returns-clause-blames g c =
-    blames_read (state g.S.Store c.args.conn.now) (state g.S.Store c.last_correction-found.new.conn) _ _ c.last_correction-found.ensures.looks _ _ _ c.number_after.result c.last_correction-found.ensures.readable c.number_after.ensures.accepts
-    (λ t can. can.corrections)
-    (λ t stands kept room found is. low_correction found (room (next_correction (option_map correction_in found)) (ap (λ o. pos (next_correction o)) is ∙ next_correction_is t.corrections)))
+pub returns-in-None-clause-looks : goal.returns-in-None-clause-looks
+returns-in-None-clause-looks g c =
+    looks_so (state g.S.Store c.args.conn.now) (state g.S.Store c.find_correction_number.new.conn) c.find_correction_number.result _ _ c.find_correction_number.ensures.looks (λ t it n is next. is)
+
+pub returns-in-Some-clause-blames : goal.returns-in-Some-clause-blames
+returns-in-Some-clause-blames g c = blames_none (state g.S.Store c.args.conn.now) (Ok c.in-Some.number) _ (λ t stands kept room. tt)

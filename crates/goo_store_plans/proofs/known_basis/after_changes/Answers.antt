@@ -8,7 +8,7 @@ use Rattle.goo_store_plans.proofs.known_basis.after_changes.Goals as goal
 
 pub loop-change-init : goal.loop-change-init
 loop-change-init c = record {
-  numbered = λ t order. record { declarations = order.declarations; lots = order.lots };
+  numbered = λ t order. record { declarations = order.declarations; lots = order.lots; corrections = order.corrections };
   known = λ t order is. is;
 }
 

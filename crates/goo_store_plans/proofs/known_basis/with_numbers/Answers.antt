@@ -17,6 +17,11 @@ returns-in-Import-clause-blames g c =
     blames_so (state g.S.Store c.args.conn.now) (state g.S.Store c.with_next_lot.new.conn) c.with_next_lot.result _ _ c.with_next_lot.ensures.blames
     (λ t stands kept room n next. let left = subst (HasRoomFor t) c.in-Import.is room n next in omega (arith, left))
 
+pub returns-in-Correct-clause-blames : goal.returns-in-Correct-clause-blames
+returns-in-Correct-clause-blames g c =
+    blames_so (state g.S.Store c.args.conn.now) (state g.S.Store c.with_correction.new.conn) c.with_correction.result _ _ c.with_correction.ensures.blames
+    (λ t stands kept room n next. let left = subst (HasRoomFor t) c.in-Correct.is room n next in omega (arith, left))
+
 pub returns-in_default-clause-looks : goal.returns-in_default-clause-looks
 returns-in_default-clause-looks g c = looks_none (state g.S.Store c.args.conn.now) (Ok c.args.known) _ (λ t it known. known)
 

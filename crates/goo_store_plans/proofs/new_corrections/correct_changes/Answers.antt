@@ -9,7 +9,7 @@ use Rattle.goo_store_plans.proofs.new_corrections.correct_changes.Goals as goal
 pub returns-clause-looks : goal.returns-clause-looks
 returns-clause-looks g c =
     looks_made (state g.S.Store c.args.conn.now) (state g.S.Store c.find_basis.new.conn) c.in_ok-basis.basis c.corrected_changes.result _ _ c.in_ok-basis.ensures.looks
-    (λ t it basis. if_ok c.corrected_changes.result c.corrected_changes.ensures.does (λ changes does count told replied. does t count told basis replied))
+    (λ t it basis. if_ok c.corrected_changes.result c.corrected_changes.ensures.does (λ changes does count told known replied. does t count told (basis known) replied))
 
 pub returns-in_err-basis-clause-blames : goal.returns-in_err-basis-clause-blames
 returns-in_err-basis-clause-blames g c =
@@ -22,4 +22,4 @@ returns-in_err-basis-clause-blames g c =
 pub returns-clause-blames : goal.returns-clause-blames
 returns-clause-blames g c =
     blames_made (state g.S.Store c.args.conn.now) (state g.S.Store c.find_basis.new.conn) c.in_ok-basis.basis _ c.in_ok-basis.ensures.looks _ c.in_ok-basis.ensures.blames c.corrected_changes.result _
-    (λ t stands kept can basis. c.corrected_changes.ensures.memory can.row can.takes (basis_low t can.corrections c.args.accepted.now.device c.in_ok-basis.basis basis) can.carry_fits)
+    (λ t stands kept can basis. c.corrected_changes.ensures.memory can.row can.takes (basis_low t can.corrections c.args.accepted.now.device c.in_ok-basis.basis (basis can.kept_is)) can.carry_fits)

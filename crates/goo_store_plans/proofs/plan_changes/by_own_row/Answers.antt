@@ -14,7 +14,7 @@ returns-in-Declare-clause-gathers g c =
 pub returns-in-Correct-clause-gathers : goal.returns-in-Correct-clause-gathers
 returns-in-Correct-clause-gathers g c =
     gathers_then (state g.S.Store c.args.conn.now) (state g.S.Store c.known_row.new.conn) (state g.S.Store c.correction.new.conn) c.in_ok-meta.meta c.correction.result _ _ c.in_ok-meta.ensures.gathers c.correction.ensures.looks _
-    (λ t gathered same says known device kept order fits. says c.args.plan.now.request c.in-Correct.is (same known) order (record { kept = kept; accepted = fits.accepted }))
+    (λ t gathered same says known device kept order fits. says c.args.plan.now.request c.in-Correct.is (same known) device order (record { kept = kept; accepted = fits.accepted }))
 
 pub returns-clause-gathers : goal.returns-clause-gathers
 returns-clause-gathers g c =

@@ -20,13 +20,13 @@ carry_same a b k l m n is = cc
 pub returns-in_ok-changes-in-Corrected-clause-looks : goal.returns-in_ok-changes-in-Corrected-clause-looks
 returns-in_ok-changes-in-Corrected-clause-looks g c =
     looks_made (state g.S.Store c.args.conn.now) (state g.S.Store c.correct_changes.new.conn) c.in_ok-changes-in-Corrected.changes (Ok c.without_lots.result) _ _ c.in_ok-changes-in-Corrected.ensures.looks
-    (λ t it does q is told order accepted.
+    (λ t it does q is told known order accepted.
     let x = c.args.accepted.now in
     let passes = subst (λ d. refusal (state_of t) q.caller d ≡ None) is (accepted_passes (state_of t) q c.args.reply accepted.accepted) in
     let replied = ap (reply_to (state_of t)) (sym is) ∙ accepted_reply (state_of t) q c.args.reply accepted.accepted ∙ c.in-Corrected.is in
     subst (λ d. CarriesOut t d c.without_lots.result) (sym is)
     (carried_without t (command.Correct x) c.in_ok-changes-in-Corrected.changes.items c.without_lots.result (ap (λ v. v.items) c.without_lots.ensures.changes) c.without_lots.ensures.added
-    (does c.in-Corrected.count told replied accepted.kept order q.caller passes)))
+    (does c.in-Corrected.count told known replied accepted.kept order q.caller passes)))
 
 pub returns-in_err-changes-in-Corrected-clause-blames : goal.returns-in_err-changes-in-Corrected-clause-blames
 returns-in_err-changes-in-Corrected-clause-blames g c =
@@ -35,7 +35,7 @@ returns-in_err-changes-in-Corrected-clause-blames g c =
     let same : c.from_residual.result ≡ Err c.in_err-changes-in-Corrected.field-0.0 = search rules in
     blames_err s0 s1 c.in_err-changes-in-Corrected.field-0.0 c.from_residual.result _ same
     (blames_so s0 s1 (Err c.in_err-changes-in-Corrected.field-0.0) _ _ c.in_err-changes-in-Corrected.ensures.blames
-    (λ t stands kept needs. subst (CanBeCorrected t c.args.meta.now c.args.accepted.now) (carry_same needs.carry c.in-Corrected.carry needs.count c.in-Corrected.count needs.withdrawal c.in-Corrected.withdrawal (sym needs.reply_is ∙ c.in-Corrected.is)) needs.can))
+    (λ t stands kept needs. subst (CanBeCorrected t c.args.basis c.args.meta.now c.args.accepted.now) (carry_same needs.carry c.in-Corrected.carry needs.count c.in-Corrected.count needs.withdrawal c.in-Corrected.withdrawal (sym needs.reply_is ∙ c.in-Corrected.is)) needs.can))
 
 pub returns-in_ok-changes-in-Corrected-clause-blames : goal.returns-in_ok-changes-in-Corrected-clause-blames
 returns-in_ok-changes-in-Corrected-clause-blames g c =

@@ -7,7 +7,7 @@ use Rattle.goo_spec.specs.State.{State}
 use Rattle.goo_core_shelf.specs.Shelf.{progress_of, IsRecordOf}
 use Rattle.goo_core_shelf.specs.declared.found.DeviceRecord.{DeviceRecord}
 use Rattle.goo_tables_rows.specs.Rows as row
-use Rattle.goo_spec_tables.specs.Devices.{device_of, progress_in, record_in}
+use Rattle.goo_spec_tables.specs.Devices.{device_of, device_row, progress_in, record_in}
 use Rattle.goo_spec_tables.proofs.Known.{known_kept, text_test}
 use Rattle.goo_spec_tables.specs.States.{state_of}
 use Rattle.goo_store_judge.proofs.Looking.{looked, refused_look, well}
@@ -35,8 +35,10 @@ invariant_of-self g c = record {
   well = well (view g.S.Store c.args.self.now.conn) (view g.S.Store c.find_device-found.new.conn) c.args.self.now.well _ _ c.find_device-found.ensures.looks;
   known =
       device_known (view g.S.Store c.args.self.now.conn) (view g.S.Store c.find_device-found.new.conn) c.args.self.now.well _ _ c.find_device-found.ensures.looks c.args.device.now
-      (λ row found.
-      sym (known_kept nat_list_cmp_total (λ k. k.1.gsrn) c.args.device.now _ (λ k. ap (bytes_eq k.1.gsrn) c.text.ensures.value ∙ text_test k.1.gsrn c.args.device.now) (λ k. k.1) device_of _ _ (Some (device_of (device_in row))) found refl))
+      (λ row found. (
+        sym (known_kept nat_list_cmp_total (λ k. k.1.gsrn) c.args.device.now _ (λ k. ap (bytes_eq k.1.gsrn) c.text.ensures.value ∙ text_test k.1.gsrn c.args.device.now) (λ k. k.1) device_of _ _ (Some (device_of (device_in row))) found refl),
+        sym (ap (λ o. (progress_in o).last_day) (found ∙ ap (device_row (tables_in (view g.S.Store c.args.self.now.conn)).devices) c.text.ensures.value)),
+      ))
       c.args.self.now.known_rows c.read_record-record.new.kept c.args.self.now.known c.read_record-record.ensures.kept;
   cached = lasts_on (view g.S.Store c.args.self.now.conn) (view g.S.Store c.find_device-found.new.conn) c.args.self.now.well _ _ c.find_device-found.ensures.looks c.args.self.now.cache c.is_ok-self.result c.is_ok-self.ensures.value c.args.self.now.cached;
 }

@@ -1,15 +1,13 @@
-use Rattle.std.proofs.Common.{◌≡◌, ◌+◌, ◌&&◌, ◌∙◌, [], find, nat_le, nat_lt, reverse, ap, refl, subst, sym, rules, Err, arith}
+use Rattle.std.proofs.Common.{◌≡◌, ◌+◌, ◌&&◌, ◌∙◌, nat_le, ap, rules, Err, arith}
 use Rattle.std.specs.List.{filter}
 use Rattle.sqlite.specs.Held.{state as view}
 use Rattle.goo_tables_rows.proofs.Results.{if_ok}
 use Rattle.goo_store_judge.specs.Moments.{moment, tables_in}
 use Rattle.goo_spec_tables.specs.Places.{rows_of}
-use Rattle.goo_core_shelf.proofs.Looking.{looked_or_full, ready_after, still}
+use Rattle.goo_core_shelf.proofs.Looking.{looked_or_full}
 use Rattle.goo_store_judge.proofs.Looking.{failed_then, looked_both}
 use Rattle.goo_store_judge.proofs.Blaming.{blamed_then, blamed_both, blamed_err}
 use Rattle.goo_store_pieces.proofs.RowsRead.{near_rises}
-use Rattle.goo_store_judge.specs.Holding.{safe}
-use Rattle.goo_store.proofs.NewNumbers.{none_issued, within}
 use Rattle.goo_store_pieces.proofs.Merging.{near_alone, near_found}
 use Rattle.goo_store.proofs.shelf.SqlShelfShelf.meeting.Goals as goal
 
@@ -37,10 +35,10 @@ returns-clause-looks g c =
     let mid = c.row_before.new.self in
     let new = c.rows_beginning.new.self in
     let range = c.args.range in
-    looked_both old (view g.S.Store mid.conn) (view g.S.Store new.conn) c.args.self.now.refused mid.refused new.refused c.note_fault-2.new.refused
-    c.in_ok-before.before _ c.in_ok-before.ensures.looks c.in_ok-later.later _ _ c.join_near-2.result c.note_fault-2.result c.in_ok-later.ensures.looks c.note_fault-2.ensures
+    looked_both old (view g.S.Store mid.conn) (view g.S.Store new.conn) c.args.self.now.refused mid.refused new.refused c.note_fault.new.refused
+    c.in_ok-before.before _ c.in_ok-before.ensures.looks c.in_ok-later.later _ _ c.join_near.result c.note_fault.result c.in_ok-later.ensures.looks c.note_fault.ensures
     (λ fine same before later.
-    if_ok c.join_near-2.result c.join_near-2.ensures.value (λ met is.
+    if_ok c.join_near.result c.join_near.ensures.value (λ met is.
     is
     ∙ near_found range (omega (arith, c.first.ensures.limit.rising)) (rows_of (tables_in old)) (c.args.self.now.well.kept fine).rising c.get-first.result c.get-last.result
     (c.get-first.ensures.value ∙ c.first.ensures.value) (c.get-last.ensures.value ∙ c.last.ensures.value) _ _ before
@@ -53,9 +51,9 @@ returns-clause-store g c =
     let new = c.rows_beginning.new.self in
     let range = c.args.range in
     blamed_both old (view g.S.Store mid.conn) (view g.S.Store new.conn) c.args.self.now.refused mid.refused new.refused
-    c.in_ok-before.before _ c.in_ok-before.ensures.looks c.in_ok-before.ensures.store c.in_ok-later.later _ c.note_fault-2.new.refused c.join_near-2.result c.note_fault-2.result c.in_ok-later.ensures.looks c.in_ok-later.ensures.store c.note_fault-2.ensures
+    c.in_ok-before.before _ c.in_ok-before.ensures.looks c.in_ok-before.ensures.store c.in_ok-later.later _ c.note_fault.new.refused c.join_near.result c.note_fault.result c.in_ok-later.ensures.looks c.in_ok-later.ensures.store c.note_fault.ensures
     (λ fine same before later.
-    c.join_near-2.ensures.accepts
+    c.join_near.ensures.accepts
     (near_rises range (omega (arith, c.first.ensures.limit.rising)) (rows_of (tables_in old)) (c.args.self.now.well.kept fine).rising c.get-first.result c.get-last.result
     (c.get-first.ensures.value ∙ c.first.ensures.value) (c.get-last.ensures.value ∙ c.last.ensures.value) _ _ before
     (c.deref.ensures.value ∙ later ∙ ap (filter (λ p. nat_le c.get-first.result p.first && nat_le p.first (c.get-last.result + 1))) same)))
@@ -72,40 +70,3 @@ returns-in-Some-clause-looks g c =
     is
     ∙ near_alone range (omega (arith, c.first.ensures.limit.rising)) (rows_of (tables_in old)) (c.args.self.now.well.kept fine).rising c.get-first.result c.get-last.result
     (c.get-first.ensures.value ∙ c.first.ensures.value) (c.get-last.ensures.value ∙ c.last.ensures.value) _ before c.in-Some.row (search rules) (search rules))
-
--- ---- where the numbers are issued next
-
-pub returns-then-is_issued_next-clause-looks : goal.returns-then-is_issued_next-clause-looks
-returns-then-is_issued_next-clause-looks g c =
-    let old = view g.S.Store c.args.self.now.conn in
-    let mid = c.row_before.new.self in
-    let seen = view g.S.Store mid.conn in
-    let range = c.args.range in
-    let one = c.in_ok-before.ensures.looks in
-    looked_both old seen seen c.args.self.now.refused mid.refused mid.refused c.note_fault.new.refused c.in_ok-before.before _ one c.in_ok-before.before (λ _. filter (within range) (rows_of (tables_in seen)) ≡ []) _ c.join_near.result c.note_fault.result
-    (still (moment seen mid.refused) c.in_ok-before.before (λ _. filter (within range) (rows_of (tables_in seen)) ≡ [])
-    (ready_after (moment old c.args.self.now.refused) (moment seen mid.refused) c.in_ok-before.before _ one (λ none. safe seen mid.well (λ live db may. g.met.S.Store.settled mid.conn.store db live may) none mid.refused))
-    (λ none. none_issued (tables_in seen) (mid.well.kept none) seen.now (mid.well.stands none) mid.known_rows.own (mid.known none).own range c.first.ensures.limit (search rules)))
-    c.note_fault.ensures
-    (λ fine same before none.
-    if_ok c.join_near.result c.join_near.ensures.value (λ met is.
-    is
-    ∙ near_found range (omega (arith, c.first.ensures.limit.rising)) (rows_of (tables_in old)) (c.args.self.now.well.kept fine).rising range.first range.last refl refl c.in_ok-before.before []
-    (before ∙ (λ i. find (λ p. nat_lt p.first ((c.get-first.ensures.value ∙ c.first.ensures.value) i)) (reverse (rows_of (tables_in old))))) (sym (subst (λ rows. filter (within range) rows ≡ []) same none))))
-
-pub returns-then-is_issued_next-clause-store : goal.returns-then-is_issued_next-clause-store
-returns-then-is_issued_next-clause-store g c =
-    let old = view g.S.Store c.args.self.now.conn in
-    let mid = c.row_before.new.self in
-    let seen = view g.S.Store mid.conn in
-    let range = c.args.range in
-    let one = c.in_ok-before.ensures.looks in
-    blamed_both old seen seen c.args.self.now.refused mid.refused mid.refused c.in_ok-before.before _ one c.in_ok-before.ensures.store c.in_ok-before.before (λ _. filter (within range) (rows_of (tables_in seen)) ≡ []) c.note_fault.new.refused c.join_near.result c.note_fault.result
-    (still (moment seen mid.refused) c.in_ok-before.before (λ _. filter (within range) (rows_of (tables_in seen)) ≡ [])
-    (ready_after (moment old c.args.self.now.refused) (moment seen mid.refused) c.in_ok-before.before _ one (λ none. safe seen mid.well (λ live db may. g.met.S.Store.settled mid.conn.store db live may) none mid.refused))
-    (λ none. none_issued (tables_in seen) (mid.well.kept none) seen.now (mid.well.stands none) mid.known_rows.own (mid.known none).own range c.first.ensures.limit (search rules)))
-    (record { limit = λ _ _. refl; counts = λ _ _. omega arith; store = λ _ _ _ _. tt }) c.note_fault.ensures
-    (λ fine same before none.
-    c.join_near.ensures.accepts
-    (near_rises range (omega (arith, c.first.ensures.limit.rising)) (rows_of (tables_in old)) (c.args.self.now.well.kept fine).rising range.first range.last refl refl c.in_ok-before.before []
-    (before ∙ (λ i. find (λ p. nat_lt p.first ((c.get-first.ensures.value ∙ c.first.ensures.value) i)) (reverse (rows_of (tables_in old))))) (sym (subst (λ rows. filter (within range) rows ≡ []) same none))))
