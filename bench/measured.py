@@ -69,8 +69,8 @@ def ratio(one, other):
 
 
 def megabytes(run):
-    """The peak of a run; of a short one it was not seen."""
-    return f'{run.memory:.0f}' if run.clock > 0.1 else ''
+    """The peak of a run, if there was one; of a short one it was not seen."""
+    return f'{run.memory:.0f}' if run and run.clock > 0.1 else ''
 
 
 def measured_row(work, place, count, run, of_rust=None, as_it_comes=None, of_python=None):
