@@ -30,7 +30,7 @@ STATEMENT = re.compile(r'Entry.*fetch')
 CONNECT = re.compile(r'^sqlite::file::connect')
 OPENED = (8_000, 32_000)
 ANSWERED = {'table': (2_000, 8_000), 'declarations': (2_000, 8_000), 'trades': (3_000, 12_000)}
-OF_FILES = ['Work', 'n', 'Statements', 'Instructions', 'of them in the library\'s check', 'Grows as', '`integrity_check`', 'Ratio', 'Grows as']
+OF_FILES = ['Work', 'n', 'Statements', 'Instructions', 'of them in the library\'s check', 'Grows as', 'The rest grows as', '`integrity_check`', 'Ratio', 'Grows as']
 SHARED = [('trades', False), ('trades', True), ('declarations', False), ('declarations', True)]
 OF_READS = ['Share of the instructions beyond opening', 'Audit, 8,000 declarations', 'Statement, 8,000 runs']
 OF_SHARES = ['Share of the instructions', 'Trades in memory', 'Trades on a file', 'Declarations in memory', 'Declarations on a file']
@@ -167,6 +167,11 @@ def all_of(found):
     return sum(found.own.values()) if found else 0
 
 
+def of_check(found):
+    """What the library's check of the file took, with all that it calls."""
+    return sum(whole for function, whole in found.whole.items() if CONNECT.search(function))
+
+
 def grown(less, more):
     """The exponent by which the instructions grow with the size."""
     return f'n^{math.log(more / less, OPENED[1] / OPENED[0]):.3f}' if less else ''
@@ -197,7 +202,7 @@ def growth():
             exponent = math.log(all_of(found) / all_of(less), many / few)
             of_each = matching(found.calls, STATEMENT) / many
             title = f'{requests.title_of(name, times)}, {"on a file" if on_file else "in memory"}'
-            row([title, f'{many:,}', f'{of_each:.1f} a request', f'{all_of(found):,}', '', f'n^{exponent:.3f}', *[''] * 3])
+            row([title, f'{many:,}', f'{of_each:.1f} a request', f'{all_of(found):,}', '', f'n^{exponent:.3f}', *[''] * 4])
 
 
 def opening():
@@ -206,12 +211,13 @@ def opening():
     for name in ('declarations', 'runs'):
         few, many = (of_file(name, n) for n in OPENED)
         ours, theirs = all_of(many[0]), all_of(many[2])
-        library = sum(whole for function, whole in many[0].whole.items() if CONNECT.search(function))
+        rest = ours - of_check(many[0])
         beside = [f'{theirs:,}', ratio(ours, theirs), grown(all_of(few[2]), theirs)] if theirs else [''] * 3
-        row([f'opening a file, {name}', f'{size:,}', '', f'{ours:,}', f'{library / ours:.0%}', grown(all_of(few[0]), ours), *beside])
+        grows = [grown(all_of(few[0]), ours), grown(all_of(few[0]) - of_check(few[0]), rest)]
+        row([f'opening a file, {name}', f'{size:,}', '', f'{ours:,}', f'{1 - rest / ours:.0%}', *grows, *beside])
         if many[1]:
             of_each = matching(many[1].calls, STATEMENT) / size
-            row([f'`statement` beyond opening, {name}', f'{size:,}', f'{of_each:.1f} a run', f'{all_of(many[1]):,}', '', grown(all_of(few[1]), all_of(many[1])), *[''] * 3])
+            row([f'`statement` beyond opening, {name}', f'{size:,}', f'{of_each:.1f} a run', f'{all_of(many[1]):,}', '', grown(all_of(few[1]), all_of(many[1])), *[''] * 4])
 
 
 def crate_of(name):

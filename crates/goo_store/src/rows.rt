@@ -40,7 +40,7 @@ impl<S: Alter> SqlShelf<S> {
         }
         let found = piece_before(alloc, &mut self.conn, low);
         self.cache.answered = found.is_ok();
-        let row = read_maybe(found, &mut self.known_rows.lots);
+        let row = read_maybe(found, &mut self.known_rows.lots.found);
         note_fault(row, &mut self.refused)
     }
 
@@ -62,7 +62,7 @@ impl<S: Alter> SqlShelf<S> {
         }
         let found = pieces_beginning(alloc, &mut self.conn, low, high);
         self.cache.answered = found.is_ok();
-        let rows = read_rising(alloc, found, &mut self.known_rows.lots);
+        let rows = read_rising(alloc, found, &mut self.known_rows.lots.found);
         note_fault(rows, &mut self.refused)
     }
 
@@ -80,7 +80,7 @@ impl<S: Alter> SqlShelf<S> {
         }
         let found = ask_next(self.alloc, &mut self.conn, sought, after);
         self.cache.answered = found.is_ok();
-        let row = read_beyond(found, after, &mut self.known_rows.lots);
+        let row = read_beyond(found, after, &mut self.known_rows.lots.found);
         self.known_rows.edges = edges_after(&self.known_rows.edges, after, &row);
         note_fault(row, &mut self.refused)
     }
@@ -135,7 +135,7 @@ impl<S: Alter> SqlShelf<S> {
             found,
             account,
             row,
-            &mut self.known_rows.lots,
+            &mut self.known_rows.lots.found,
             &mut self.cache.ahead,
         );
         note_fault(shown, &mut self.refused)

@@ -17,7 +17,9 @@ use goo_core_shelf::sought::Sought;
 use goo_store_changes::committing::commit_changes;
 use goo_store_judge::holders;
 use goo_store_pieces::cache::keep_account;
+use goo_store_pieces::kept_lots::keep_missing;
 use goo_store_pieces::pieces::{alone, ending_behind, join_near, read_rising};
+use goo_store_plans::known_rows::LotKey;
 use goo_store_values::noting::note_fault;
 use goo_tables::cancellation::find_cancellation;
 use goo_tables::device::find_device;
@@ -239,6 +241,11 @@ impl<S: Alter> Shelf for SqlShelf<S> {
         if self.refused {
             return Err(Fault::Store);
         }
+        let key = LotKey {
+            origin,
+            device: *device,
+            first_day,
+        };
         let origin = u32::from(origin.get());
         let day = first_day.text();
         let found = find_lot(
@@ -249,7 +256,8 @@ impl<S: Alter> Shelf for SqlShelf<S> {
             day.as_str(),
         );
         self.cache.answered = found.is_ok();
-        let lot = lots::read_found(found, &mut self.known_rows.lots);
+        let lot = lots::read_found(found, &mut self.known_rows.lots.found);
+        keep_missing(&mut self.known_rows.lots.missing, key, &lot);
         note_fault(lot, &mut self.refused)
     }
 
@@ -337,7 +345,7 @@ impl<S: Alter> Shelf for SqlShelf<S> {
         }
         let found = pieces_of_account(alloc, &mut self.conn, account.get());
         self.cache.answered = found.is_ok();
-        let rows = read_rising(alloc, found, &mut self.known_rows.lots);
+        let rows = read_rising(alloc, found, &mut self.known_rows.lots.found);
         note_fault(rows, &mut self.refused)
     }
 

@@ -1,5 +1,5 @@
 -- What a shelf keeps of its look-ups, as it is found and kept.
-use Rattle.std.proofs.Common.{◌≡◌, inl, inr, refl, sym, ap, subst, ◌∙◌, ◌∷◌, [], pos, ℕ, Bool, List, All, map, find, filter, reverse, Option, Some, None, option_map, Ok, Err, Result, IfOk, IfSome, IsSomeAnd}
+use Rattle.std.proofs.Common.{◌≡◌, inl, inr, refl, sym, ap, subst, ◌∙◌, ◌∷◌, [], pos, ℕ, Bool, List, All, map, find, filter, reverse, Option, Some, None, option_map, Ok, Err, Result, IfOk, IfSome, IsSomeAnd, true≢false}
 use Rattle.std.specs.Prelude.{IsOkAnd}
 use Rattle.std.specs.FinMap.{get}
 use Rattle.std.specs.List.{cons_option}
@@ -8,7 +8,7 @@ use Rattle.std.proofs.lemmas.List.Sorted.{All-permutation, IsPermutation-reverse
 use Rattle.sqlite.specs.State.{State}
 use Rattle.sqlite.specs.declared.error.Error.{Error}
 use Rattle.sqlite_keyed.specs.Keyed.{get_by}
-use Rattle.goo_spec.proofs.Mapping.{inside}
+use Rattle.goo_spec.proofs.Mapping.{inside, none_some}
 use Rattle.goo_types.specs.declared.lot_fields.LotFields.{LotFields}
 use Rattle.goo_types.specs.declared.piece.Piece.{Piece}
 use Rattle.goo_tables_rows.specs.Beside.{beside, pieces_beside, joined_in}
@@ -22,14 +22,18 @@ use Rattle.goo_tables_rows.specs.declared.piece.PieceRow.{PieceRow}
 use Rattle.goo_spec_tables.specs.Devices.{device_of, device_row, progress_in}
 use Rattle.goo_spec_tables.specs.States.{state_of}
 use Rattle.goo_spec_tables.specs.Places.{lot_of, piece_of, rows_of}
-use Rattle.goo_store_plans.specs.Found.{IsRowOf, IsBasisOf, IsDeviceOf, IsNext, IsStated, AreStated, AreInTables, AreNone, AreEdges, IsNoBasis}
+use Rattle.goo_store_plans.specs.Found.{IsRowOf, IsBasisOf, IsDeviceOf, IsNext, IsStated, IsMissing, AreStated, AreMissing, AreLots, AreNoLots, AreInTables, AreNone, AreEdges, IsNoBasis}
 use Rattle.goo_store_pieces.specs.Found.{IsBeside, Knows, KeepsFound, KeepsDevice, KeepsLot, KeepsLots, KeepsRead, KeepsRow}
 use Rattle.goo_store_judge.specs.Holding.{sure}
 use Rattle.goo_store_judge.specs.Moments.{tables_in, IsWell}
 use Rattle.goo_store_plans.specs.declared.known_rows.KnownRows.{KnownRows}
 use Rattle.goo_store_plans.specs.declared.known_rows.KnownBasis.{KnownBasis}
 use Rattle.goo_store_plans.specs.declared.known_rows.KnownDevice.{KnownDevice}
+use Rattle.goo_store_plans.specs.declared.known_rows.KnownLots.{KnownLots}
+use Rattle.goo_store_plans.specs.declared.known_rows.LotKey.{LotKey}
 use Rattle.goo_store_plans.specs.declared.lot_numbers.NumberedLot.{NumberedLot}
+use Rattle.goo_store_values.specs.Passing.{Passes}
+use Rattle.goo_store_values.specs.declared.statement_fault.StatementFault.{StatementFault}
 use Rattle.goo_store_judge.proofs.Looking.{before, so_still}
 use Rattle.goo_store_plans.proofs.RowsGathered.{found_by_key}
 use Rattle.goo_store_values.proofs.RowsRead.{found_row}
@@ -44,12 +48,19 @@ no_basis t known is = record {
   correction = subst (λ o. IsNext o correction_key t.corrections) (sym is.correction) tt;
 }
 
+-- so are no lots
+no_lots : (lots : List Lot) (known : KnownLots) → AreNoLots known → AreLots lots known
+no_lots lots known is = record {
+  found = subst (AreStated lots) (sym is.found) (All-nil _);
+  missing = subst (AreMissing lots) (sym is.missing) (All-nil _);
+}
+
 -- nothing kept is right of all tables
 pub none_known : (s : State) (known_rows : KnownRows) → AreNone known_rows → Knows s known_rows
 none_known s known_rows is none = record {
   own = subst (λ o. IsRowOf o (tables_in s)) (sym is.own) tt;
   basis = no_basis (tables_in s) known_rows.basis is.basis;
-  lots = subst (AreStated (tables_in s).lots) (sym is.lots) (All-nil _);
+  lots = no_lots (tables_in s).lots known_rows.lots is.lots;
   edges = subst (λ e. AreEdges e (rows_of (tables_in s))) (sym is.edges) (record { last = tt; asked = tt });
 }
 
@@ -59,7 +70,7 @@ pub known_after : (s : State) (known_rows : KnownRows) → AreNone known_rows �
 known_after s known_rows is own row_right basis right none = record {
   own = row_right none;
   basis = right none;
-  lots = subst (AreStated (tables_in s).lots) (sym is.lots) (All-nil _);
+  lots = no_lots (tables_in s).lots known_rows.lots is.lots;
   edges = subst (λ e. AreEdges e (rows_of (tables_in s))) (sym is.edges) (record { last = tt; asked = tt });
 }
 
@@ -162,21 +173,24 @@ some_beside t test rows is = unmapped (IsBeside t.lots) joined_in rows (subst (A
 
 -- lots that were looked up
 lots_after : (old new : State) (it : IsWell old) {T : Type 0} (r : Result T Error) (right : Tables → T → Type 0) → Looks old new r right → (known_rows next : KnownRows) → next.own ≡ known_rows.own → next.basis ≡ known_rows.basis → (defects new ≡ 0 → AreEdges known_rows.edges (rows_of (tables_in new)) → AreEdges next.edges (rows_of (tables_in new))) → Knows old known_rows
-    → (Stands old.now (tables_in old) → IfOk r (right (tables_in old)) → AreStated (tables_in old).lots known_rows.lots.items → AreStated (tables_in old).lots next.lots.items) → Knows new next
+    → (Stands old.now (tables_in old) → IfOk r (right (tables_in old)) → AreLots (tables_in old).lots known_rows.lots → AreLots (tables_in old).lots next.lots) → Knows new next
 lots_after old new it r right looks known_rows next own basis edges knows are none =
     let still = known old new it r _ looks known_rows knows in
     let first = before old new it r _ looks none in record {
       own = subst (λ o. IsRowOf o (tables_in new)) (sym own) (still none).own;
       basis = subst (λ b. IsBasisOf b (tables_in new)) (sym basis) (still none).basis;
-      lots = so_still old new it r _ looks (λ t. AreStated t.lots next.lots.items) none (are (it.stands first) (looks.found (sure new none).0 (tables_in old) (it.stands first)) (knows first).lots);
+      lots = so_still old new it r _ looks (λ t. AreLots t.lots next.lots) none (are (it.stands first) (looks.found (sure new none).0 (tables_in old) (it.stands first)) (knows first).lots);
       edges = edges none (still none).edges;
     }
 
 pub lots_known : (old new : State) (it : IsWell old) {T : Type 0} (r : Result T Error) (right : Tables → T → Type 0) → Looks old new r right → (rows : T → List JoinedRow) → ((x : T) → right (tables_in old) x → All (λ a. IsBeside (tables_in old).lots (joined_in a)) (rows x))
-    → (known_rows next : KnownRows) → next.own ≡ known_rows.own → next.basis ≡ known_rows.basis → (defects new ≡ 0 → AreEdges known_rows.edges (rows_of (tables_in new)) → AreEdges next.edges (rows_of (tables_in new))) → Knows old known_rows → KeepsRead r rows known_rows.lots.items next.lots.items → Knows new next
-lots_known old new it {T} r right looks rows each known_rows next own basis edges knows kept = lots_after old new it r right looks known_rows next own basis edges knows (λ stands found are. all r found kept are)
+    → (known_rows next : KnownRows) → next.own ≡ known_rows.own → next.basis ≡ known_rows.basis → next.lots.missing ≡ known_rows.lots.missing → (defects new ≡ 0 → AreEdges known_rows.edges (rows_of (tables_in new)) → AreEdges next.edges (rows_of (tables_in new))) → Knows old known_rows
+    → KeepsRead r rows known_rows.lots.found.items next.lots.found.items → Knows new next
+lots_known old new it {T} r right looks rows each known_rows next own basis missing edges knows kept =
+    lots_after old new it r right looks known_rows next own basis edges knows
+    (λ stands found are. record { found = all r found kept are.found; missing = subst (λ ks. AreMissing (tables_in old).lots ks.items) (sym missing) are.missing })
   where
-    all : (q : Result T Error) → IfOk q (right (tables_in old)) → KeepsRead q rows known_rows.lots.items next.lots.items → AreStated (tables_in old).lots known_rows.lots.items → AreStated (tables_in old).lots next.lots.items
+    all : (q : Result T Error) → IfOk q (right (tables_in old)) → KeepsRead q rows known_rows.lots.found.items next.lots.found.items → AreStated (tables_in old).lots known_rows.lots.found.items → AreStated (tables_in old).lots next.lots.found.items
     all (Ok x) found keeps are = keeps (tables_in old).lots are (each x found)
     all (Err e) found keeps are = subst (AreStated (tables_in old).lots) (sym keeps) are
 
@@ -190,12 +204,28 @@ row_states lots row lot is there = ap (option_map lot_of) there ∙ ap (λ (l : 
 pub kept_row : (found : Result (Option LotRow) Error) (row : LotRow) (old new : List NumberedLot) → found ≡ Ok (Some row) → KeepsRow row old new → KeepsLot found old new
 kept_row found row old new is kept = subst (λ (f : Result (Option LotRow) Error). KeepsLot f old new) (sym is) kept
 
+-- a look-up that found no lot found no row
+none_there : (test : Lot → Bool) (lots : List Lot) (q : Result (Option LotRow) Error) (read : Result (Option LotFields) StatementFault) → Passes q read (λ row lot. lot ≡ option_map lot_of (option_map lot_in row)) → IfOk q (λ found. option_map lot_in found ≡ find test lots) → read ≡ Ok None → find test lots ≡ None
+none_there test lots (Ok None) read passes found is = sym found
+none_there test lots (Ok (Some row)) (Ok None) passes found is = none_some _ passes
+none_there test lots (Ok (Some row)) (Ok (Some lot)) passes found is = absurd cc
+none_there test lots (Ok (Some row)) (Err e) passes found is = absurd cc
+none_there test lots (Err e) (Ok lot) passes found is = absurd (true≢false (sym passes))
+none_there test lots (Err e) (Err f) passes found is = absurd cc
+
 pub lot_known : (old new : State) (it : IsWell old) (r : Result (Option LotRow) Error) (test : Lot → Bool) → Looks old new r (λ t found. option_map lot_in found ≡ find test t.lots)
-    → (known_rows next : KnownRows) → next.own ≡ known_rows.own → next.basis ≡ known_rows.basis → (defects new ≡ 0 → AreEdges known_rows.edges (rows_of (tables_in new)) → AreEdges next.edges (rows_of (tables_in new))) → Knows old known_rows → KeepsLot r known_rows.lots.items next.lots.items → Knows new next
-lot_known old new it r test looks known_rows next own basis edges knows kept = lots_after old new it r _ looks known_rows next own basis edges knows (all r kept)
+    → (key : LotKey) → ((lots : List Lot) → find test lots ≡ None → IsMissing lots key) → (read : Result (Option LotFields) StatementFault) → Passes r read (λ row lot. lot ≡ option_map lot_of (option_map lot_in row))
+    → (known_rows next : KnownRows) → next.own ≡ known_rows.own → next.basis ≡ known_rows.basis → (defects new ≡ 0 → AreEdges known_rows.edges (rows_of (tables_in new)) → AreEdges next.edges (rows_of (tables_in new))) → Knows old known_rows → KeepsLot r known_rows.lots.found.items next.lots.found.items
+    → ((lots : List Lot) → AreMissing lots known_rows.lots.missing.items → (read ≡ Ok None → IsMissing lots key) → AreMissing lots next.lots.missing.items) → Knows new next
+lot_known old new it r test looks key is_missing read passes known_rows next own basis edges knows kept missed =
+    lots_after old new it r _ looks known_rows next own basis edges knows
+    (λ stands found are. record {
+      found = all r kept stands found are.found;
+      missing = missed (tables_in old).lots are.missing (λ is. is_missing (tables_in old).lots (none_there test (tables_in old).lots r read passes found is));
+    })
   where
-    all : (q : Result (Option LotRow) Error) → KeepsLot q known_rows.lots.items next.lots.items → Stands old.now (tables_in old) → IfOk q (λ found. option_map lot_in found ≡ find test (tables_in old).lots)
-        → AreStated (tables_in old).lots known_rows.lots.items → AreStated (tables_in old).lots next.lots.items
+    all : (q : Result (Option LotRow) Error) → KeepsLot q known_rows.lots.found.items next.lots.found.items → Stands old.now (tables_in old) → IfOk q (λ found. option_map lot_in found ≡ find test (tables_in old).lots)
+        → AreStated (tables_in old).lots known_rows.lots.found.items → AreStated (tables_in old).lots next.lots.found.items
     all (Ok (Some row)) keeps stands found are = keeps (tables_in old).lots are (found_by_key lot_key test (tables_in old).lots (lot_in row) stands.lots.rise (sym found))
     all (Ok None) keeps stands found are = subst (AreStated (tables_in old).lots) (sym keeps) are
     all (Err e) keeps stands found are = subst (AreStated (tables_in old).lots) (sym keeps) are

@@ -1,7 +1,7 @@
 -- What a shelf keeps of its look-ups until the next commit.
-use Rattle.std.specs.Prelude.{◌≡◌, ◌⊎◌, ◌==◌, Bool, true, ℕ, ℤ, pos, List, All, Option, Some, None, Result, Ok, Err, IsOkAnd, IsSomeAnd}
+use Rattle.std.specs.Prelude.{◌≡◌, ◌⊎◌, ◌==◌, Bool, true, false, ℕ, ℤ, pos, List, All, Option, Some, None, Result, Ok, Err, IsOkAnd, IsSomeAnd}
 use Rattle.std.specs.Coded.{Coded, Coded-set, code_by, coded×, coded_list, coded_ℕ}
-use Rattle.std.specs.FinMap.{get}
+use Rattle.std.specs.FinMap.{get, contains_key}
 use Rattle.std.specs.List.{list_any}
 use Rattle.std.proofs.Props.{props}
 use mathlib.Core.Path.{refl}
@@ -23,12 +23,15 @@ use Rattle.goo_tables_rows.specs.declared.piece.PieceRow.{PieceRow}
 use Rattle.goo_spec_tables.specs.Devices.{device_of, device_row, progress_in}
 use Rattle.goo_spec_tables.specs.Places.{rows_of}
 use Rattle.goo_spec_tables.specs.States.{state_of}
-use Rattle.goo_store_plans.specs.Found.{IsRowOf, IsBasisOf, IsDeviceOf, IsEdge, AreEdges, IsNext, AreStated, AreInTables}
+use Rattle.goo_store_plans.specs.Found.{IsRowOf, IsBasisOf, IsDeviceOf, IsEdge, AreEdges, IsNext, IsMissing, AreLots, AreStated, AreInTables, key_in}
 use Rattle.goo_store_judge.specs.Moments.{tables_in}
+use Rattle.goo_store_plans.specs.NewLots.{known_lots}
 use Rattle.goo_store_plans.specs.declared.known_rows.Edges.{Edges}
 use Rattle.goo_store_plans.specs.declared.known_rows.KnownRows.{KnownRows}
 use Rattle.goo_store_plans.specs.declared.known_rows.KnownBasis.{KnownBasis}
 use Rattle.goo_store_plans.specs.declared.known_rows.KnownDevice.{KnownDevice}
+use Rattle.goo_store_plans.specs.declared.known_rows.KnownLots.{KnownLots}
+use Rattle.goo_store_plans.specs.declared.known_rows.LotKey.{LotKey}
 use Rattle.goo_store_plans.specs.declared.lot_numbers.NumberedLot.{NumberedLot}
 
 -- it is so while there is no defect
@@ -98,11 +101,20 @@ device-prop (Some known) t a b = λ i. (
   day-prop (progress_in (device_row t.devices known.gsrn)).last_day known.last_day a.1 b.1 i,
 )
 
+same-prop : (a b : Bool) → IsProp (a ≡ b)
+same-prop a b = Prim.hlevel props
+
 lot-prop : (a b : Option LotFields) → IsProp (a ≡ b)
 lot-prop a b = Prim.hlevel props
 
-lots-prop : (lots : List Lot) (xs : List NumberedLot) → IsProp (AreStated lots xs)
-lots-prop lots xs a b = λ i k d low. lot-prop _ _ (a k d low) (b k d low) i
+missing-prop : (lots : List Lot) (k : LotKey) → IsProp (IsMissing lots k)
+missing-prop lots k a b = same-prop (contains_key (known_lots lots) (key_in k)) false a b
+
+lots-prop : (lots : List Lot) (known : KnownLots) → IsProp (AreLots lots known)
+lots-prop lots known a b = λ i. record {
+  found = λ k d low. lot-prop _ _ (a.found k d low) (b.found k d low) i;
+  missing = λ k d low. missing-prop lots _ (a.missing k d low) (b.missing k d low) i;
+}
 
 basis-prop : (known : KnownBasis) (t : Tables) → IsProp (IsBasisOf known t)
 basis-prop known t a b = λ i. record {
@@ -111,9 +123,6 @@ basis-prop known t a b = λ i. record {
   next_lot = next-prop known.next_lot lot_key t.lots a.next_lot b.next_lot i;
   correction = next-prop known.correction correction_key t.corrections a.correction b.correction i;
 }
-
-same-prop : (a b : Bool) → IsProp (a ≡ b)
-same-prop a b = Prim.hlevel props
 
 edge-prop : (edge : Option ℕ) (rows : List Piece) → IsProp (IsEdge edge rows)
 edge-prop None rows a b = λ i. tt
@@ -126,6 +135,6 @@ pub Knows-prop : (s : State) (known_rows : KnownRows) → IsProp (Knows s known_
 Knows-prop s known_rows a b = λ i none. record {
   own = row-prop known_rows.own (tables_in s) (a none).own (b none).own i;
   basis = basis-prop known_rows.basis (tables_in s) (a none).basis (b none).basis i;
-  lots = lots-prop (tables_in s).lots known_rows.lots.items (a none).lots (b none).lots i;
+  lots = lots-prop (tables_in s).lots known_rows.lots (a none).lots (b none).lots i;
   edges = edges-prop known_rows.edges (rows_of (tables_in s)) (a none).edges (b none).edges i;
 }

@@ -1,16 +1,17 @@
-//! The lots of rows that were found, which are kept beside their numbers.
+//! The lots of rows that were found, which are kept beside their numbers, and those that were not.
 
-ghost use Rattle.std.specs.Prelude.{◌≡◌, ◌==◌, List, IsOkUnless};
+ghost use Rattle.std.specs.Prelude.{◌≡◌, ◌==◌, List, None, Ok, IsOkUnless};
 ghost use Rattle.std.specs.List.{list_any};
 ghost use Rattle.goo_tables_rows.specs.Rows.{Lot as RowOfLot};
-ghost use Rattle.goo_store_plans.specs.Found.{AreStated, IsStated};
+ghost use Rattle.goo_store_plans.specs.Found.{AreMissing, AreStated, IsMissing, IsStated};
 ghost use Rattle.goo_store_values.specs.declared.statement_fault.StatementFault.TheVariants.{Memory};
 
+use goo_store_plans::known_rows::LotKey;
 use goo_store_plans::lot_numbers::NumberedLot;
 use goo_store_values::statement_fault::StatementFault;
 use goo_types::lot::Lot;
 
-/// How many lots are kept at most, so that a search of them takes little.
+/// How many lots of either kind are kept at most, so that a search of them takes little.
 const MOST_LOTS: usize = 16;
 
 /// Whether a lot is kept under this number.
@@ -42,4 +43,31 @@ pub fn keep_lot(lots: &mut Vec<NumberedLot>, number: u64, lot: &Lot) -> Result<(
     make_room(lots);
     lots.extend_from_slice(&[NumberedLot { number, lot: *lot }])?;
     Ok(())
+}
+
+/// Makes room for a lot more that is missing: where the most are kept, they go.
+fn make_room_for_missing(missing: &mut Vec<LotKey>)
+    ensures kept { (known : List RowOfLot) → AreMissing known missing.old.items
+        → AreMissing known missing.new.items }
+{
+    if missing.len() >= MOST_LOTS {
+        missing.clear();
+    }
+}
+
+/// Keeps that a lot which was looked up by this key is missing, if it wasn't found; where memory
+/// for it is refused, it isn't kept.
+pub fn keep_missing(
+    missing: &mut Vec<LotKey>,
+    key: LotKey,
+    read: &Result<Option<Lot>, StatementFault>,
+)
+    ensures kept { (known : List RowOfLot) → AreMissing known missing.old.items
+        → (read.now ≡ Ok None → IsMissing known key) → AreMissing known missing.new.items }
+{
+    let Ok(None) = read else {
+        return;
+    };
+    make_room_for_missing(missing);
+    let _kept = missing.extend_from_slice(&[key]);
 }

@@ -13,10 +13,11 @@ use Rattle.goo_tables_rows.specs.Rows.{Lot, lot_key}
 use Rattle.goo_spec_tables.specs.States.{known_lot}
 use Rattle.goo_spec_tables.proofs.Known.{text_same, text_itself, get-known}
 use Rattle.goo_spec_tables.specs.Places.{lot_of}
-use Rattle.goo_store_plans.specs.Found.{IsStated, AreStated}
+use Rattle.goo_store_plans.specs.Found.{IsStated, IsMissing, AreStated, AreMissing, key_in}
 use Rattle.goo_store_plans.specs.LotNumbers.{AreJustWith, IsNumberOf}
-use Rattle.goo_store_plans.specs.LotRows.{is_among}
+use Rattle.goo_store_plans.specs.LotRows.{is_among, is_left_out}
 use Rattle.goo_store_plans.specs.NewLots.{known_lots}
+use Rattle.goo_store_plans.specs.declared.known_rows.LotKey.{LotKey}
 use Rattle.goo_store_plans.specs.declared.lot_numbers.NumberedLot.{NumberedLot}
 use Rattle.goo_store_plans.proofs.Gathering.{any_more}
 
@@ -66,4 +67,13 @@ kept_known lots (x ∷ xs) key are among = go (eq_by_cmp text_cmp key (key_of x.
   where
     go : (b : Bool) → eq_by_cmp text_cmp key (key_of x.lot) ≡ b → (b || is_among xs key) ≡ true → (is_among xs key ≡ true → contains_key (known_lots lots) key ≡ true) → contains_key (known_lots lots) key ≡ true
     go true same here rest = subst (λ k. contains_key (known_lots lots) k ≡ true) (sym (text_same key (key_of x.lot) same)) (stated_known lots x (All-head (λ y. IsStated lots y.number y.lot) x xs are))
+    go false other later rest = rest later
+
+-- a lot that is among those that are missing is not known
+pub missing_unknown : (lots : List Lot) (missing : List LotKey) (key : List ℕ) → AreMissing lots missing → is_left_out missing key ≡ true → contains_key (known_lots lots) key ≡ false
+missing_unknown lots [] key are among = absurd (true≢false (sym among))
+missing_unknown lots (k ∷ ks) key are among = go (eq_by_cmp text_cmp key (key_in k)) refl among (missing_unknown lots ks key (All-tail (IsMissing lots) k ks are))
+  where
+    go : (b : Bool) → eq_by_cmp text_cmp key (key_in k) ≡ b → (b || is_left_out ks key) ≡ true → (is_left_out ks key ≡ true → contains_key (known_lots lots) key ≡ false) → contains_key (known_lots lots) key ≡ false
+    go true same here rest = subst (λ x. contains_key (known_lots lots) x ≡ false) (sym (text_same key (key_in k) same)) (All-head (IsMissing lots) k ks are)
     go false other later rest = rest later

@@ -1,5 +1,5 @@
 -- Lots that are gathered part by part.
-use Rattle.std.proofs.Common.{◌≡◌, ◌⊎◌, ⊎_elim, arith, ℕ, ◌+◌, ℤ, pos, ◌+ℤ◌, ◌&&◌, ◌||◌, List, [], ◌∷◌, ◌++◌, append_assoc, Bool, true, false, IsTrue, cond, find, option_map, reverse, fold, is_some, slice_get, inl, inr, Option, Some, None, refl, ap, sym, subst, ◌∙◌, true≢false}
+use Rattle.std.proofs.Common.{◌≡◌, ◌⊎◌, ⊎_elim, arith, drop, slice_index, ℕ, ◌+◌, ℤ, pos, ◌+ℤ◌, ◌&&◌, ◌||◌, List, [], ◌∷◌, ◌++◌, append_assoc, Bool, true, false, IsTrue, cond, find, option_map, reverse, fold, is_some, slice_get, inl, inr, Option, Some, None, refl, ap, sym, subst, ◌∙◌, true≢false}
 use Rattle.std.specs.Prelude.{◌↔◌}
 use Rattle.std.specs.FinMap.{FinMap, get, insert, get-insert, contains_key}
 use Rattle.std.specs.List.{Any}
@@ -34,9 +34,11 @@ use Rattle.goo_spec_tables.specs.Readable.{is_lot}
 use Rattle.goo_spec_tables.specs.States.{known_lot}
 use Rattle.goo_spec_tables.proofs.Inserted.{map_inserted}
 use Rattle.goo_spec_tables.proofs.Known.{text_same, text_itself, lot_test, get-known}
+use Rattle.goo_store_plans.specs.Found.{IsKeyOf, key_in}
 use Rattle.goo_store_plans.specs.LotNumbers.{IsNumberOf, IsKnownBy, AreJustWith}
 use Rattle.goo_store_plans.specs.LotRows.{next_lot, next_declaration, next_correction, with_rows, is_among, AreGathered}
 use Rattle.goo_store_plans.specs.NewLots.{known_lots, IsNewLot, AreNewLots}
+use Rattle.goo_store_plans.specs.declared.known_rows.LotKey.{LotKey}
 use Rattle.goo_store_plans.specs.declared.lot_numbers.NumberedLot.{NumberedLot}
 use Rattle.goo_store_plans.proofs.CommandsActed.{texts_apart}
 use Rattle.goo_store_plans.proofs.RegisteringActed.{find_put, find_either}
@@ -194,17 +196,31 @@ module _ (lots : List Lot) (all left : List Part) (p : Part) (new : List Lot) (n
     done = λ more are. subst (AreNewLots lots all) (sym (append_assoc new (l ∷ []) more)) (it.done (l ∷ more) (inr (l, more, refl, is_new, subst (λ ys. AreNewLots ys left more) rows_are are)));
   }
 
+alike : (a c : Bool) → (a ≡ true → c ≡ true) → (c ≡ true → a ≡ true) → a ≡ c
+alike true c there back = sym (there refl)
+alike false true there back = back refl
+alike false false there back = refl
+
 -- two lots are known as one just where their keys are one
 pub known_as_test : (b : Bool) (known lot : LotFields) → (IsTrue b ↔ IsKnownAs known lot) → b ≡ eq_by_cmp text_cmp (key_of lot) (key_of known)
 known_as_test b known lot says =
     alike b (eq_by_cmp text_cmp (key_of lot) (key_of known))
     (λ is. let k = says.0 is in text_itself (key_of lot) (key_of known) (λ i. lots_of.lot_key (sym k.origin i) (sym k.device i) (sym k.first_day i)))
     (λ is. says.1 (known_as known lot (sym (text_same (key_of lot) (key_of known) is))))
+
+-- a lot is known by its origin, device and first day alone
+pub key_test : (b : Bool) (key : LotKey) (lot : LotFields) → (IsTrue b ↔ IsKeyOf key lot) → b ≡ eq_by_cmp text_cmp (key_of lot) (key_in key)
+key_test b key lot says =
+    alike b (eq_by_cmp text_cmp (key_of lot) (key_in key))
+    (λ is. let k = says.0 is in text_itself (key_of lot) (key_in key) (λ i. lots_of.lot_key (sym k.origin i) (sym k.device i) (sym k.first_day i)))
+    (λ is. says.1 (shared (sym (text_same (key_of lot) (key_in key) is))))
   where
-    alike : (a c : Bool) → (a ≡ true → c ≡ true) → (c ≡ true → a ≡ true) → a ≡ c
-    alike true c there back = sym (there refl)
-    alike false true there back = back refl
-    alike false false there back = refl
+    shared : key_in key ≡ key_of lot → IsKeyOf key lot
+    shared e = record {
+      origin = ap (λ k. slice_index k 0) e;
+      device = ap (drop 4) e;
+      first_day = λ i. record { year = slice_index (e i) 1; month = slice_index (e i) 2; day = slice_index (e i) 3 };
+    }
 
 -- whether a lot was found by its key
 pub known_found : (lots : List Lot) (found : Option LotRow) (there : Bool) (o : ℕ) (d text : List ℕ) (lot : LotFields) → o ≡ lot.origin → d ≡ lot.device → text ≡ day_text lot.first_day → IsDay lot.first_day

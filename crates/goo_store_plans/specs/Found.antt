@@ -1,19 +1,23 @@
 -- What was found in the tables before, and is kept for the next commit.
-use Rattle.std.specs.Prelude.{◌≡◌, ◌==◌, true, ℕ, ℤ, pos, List, [], All, Option, Some, None, option_map}
-use Rattle.std.specs.FinMap.{get}
+use Rattle.std.specs.Prelude.{◌≡◌, ◌==◌, true, false, ℕ, ℤ, pos, List, [], All, Option, Some, None, option_map}
+use Rattle.std.specs.FinMap.{get, contains_key}
 use Rattle.std.specs.List.{list_any}
 use Rattle.sqlite_keyed.specs.Keyed.{IsKeyedBy, get_by, next_key}
 use Rattle.goo_types.specs.declared.lot_fields.LotFields.{LotFields}
 use Rattle.goo_types.specs.declared.piece.Piece.{Piece}
+use Rattle.goo_spec.specs.Lots as lots_of
 use Rattle.goo_tables_rows.specs.Rows.{Tables, Lot, correction_key, declaration_key, lot_key, meta_in}
 use Rattle.goo_tables_rows.specs.declared.meta.MetaRow.{MetaRow}
 use Rattle.goo_spec_tables.specs.Devices.{device_row, progress_in}
 use Rattle.goo_spec_tables.specs.Places.{lot_of, rows_of}
 use Rattle.goo_spec_tables.specs.States.{state_of}
+use Rattle.goo_store_plans.specs.NewLots.{known_lots}
 use Rattle.goo_store_plans.specs.declared.known_rows.Edges.{Edges}
 use Rattle.goo_store_plans.specs.declared.known_rows.KnownRows.{KnownRows}
 use Rattle.goo_store_plans.specs.declared.known_rows.KnownBasis.{KnownBasis}
 use Rattle.goo_store_plans.specs.declared.known_rows.KnownDevice.{KnownDevice}
+use Rattle.goo_store_plans.specs.declared.known_rows.KnownLots.{KnownLots}
+use Rattle.goo_store_plans.specs.declared.known_rows.LotKey.{LotKey}
 use Rattle.goo_store_plans.specs.declared.lot_numbers.NumberedLot.{NumberedLot}
 
 -- where a row is kept, it is that of the tables
@@ -58,6 +62,33 @@ IsStated lots n lot = option_map lot_of (get_by lot_key lots (pos n)) ≡ Some l
 abbrev pub AreStated : List Lot → List NumberedLot → Type 0
 AreStated lots xs = All (λ x. IsStated lots x.number x.lot) xs
 
+-- what a lot is known by, as a text
+abbrev pub key_in : LotKey → List ℕ
+key_in k = lots_of.lot_key k.origin k.device k.first_day
+
+-- the lot has this origin, device and first day
+pub record IsKeyOf (k : LotKey) (lot : LotFields) : Type 0 where
+  pub origin : k.origin ≡ lot.origin
+  pub device : k.device ≡ lot.device
+  pub first_day : k.first_day ≡ lot.first_day
+
+-- no row states a lot that is known by this
+abbrev pub IsMissing : List Lot → LotKey → Type 0
+IsMissing lots k = contains_key (known_lots lots) (key_in k) ≡ false
+
+abbrev pub AreMissing : List Lot → List LotKey → Type 0
+AreMissing lots ks = All (IsMissing lots) ks
+
+-- the lots that were found are in the table, and those that are missing are not
+pub record AreLots (lots : List Lot) (known : KnownLots) : Type 0 where
+  pub found : AreStated lots known.found.items
+  pub missing : AreMissing lots known.missing.items
+
+-- no lot is kept
+pub record AreNoLots (known : KnownLots) : Type 0 where
+  pub found : known.found.items ≡ []
+  pub missing : known.missing.items ≡ []
+
 -- a row ends at the number, if one is kept
 abbrev pub IsEdge : Option ℕ → List Piece → Type 0
 IsEdge None rows = Unit {0}
@@ -71,12 +102,12 @@ pub record AreEdges (edges : Edges) (rows : List Piece) : Type 0 where
 pub record AreInTables (known_rows : KnownRows) (t : Tables) : Type 0 where
   pub own : IsRowOf known_rows.own t
   pub basis : IsBasisOf known_rows.basis t
-  pub lots : AreStated t.lots known_rows.lots.items
+  pub lots : AreLots t.lots known_rows.lots
   pub edges : AreEdges known_rows.edges (rows_of t)
 
 -- nothing is kept
 pub record AreNone (known_rows : KnownRows) : Type 0 where
   pub own : known_rows.own ≡ None
   pub basis : IsNoBasis known_rows.basis
-  pub lots : known_rows.lots.items ≡ []
+  pub lots : AreNoLots known_rows.lots
   pub edges : known_rows.edges ≡ record { last = None; asked = None }

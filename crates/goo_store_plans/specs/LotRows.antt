@@ -11,8 +11,10 @@ use Rattle.goo_tables_rows.specs.Rows as row
 use Rattle.goo_tables_rows.specs.Rows.{Lot, lot_key}
 use Rattle.goo_spec_tables.specs.Places.{lot_of}
 use Rattle.goo_spec_tables.specs.Texts.{day_of, support_of}
+use Rattle.goo_store_plans.specs.Found.{key_in}
 use Rattle.goo_store_plans.specs.LotNumbers.{AreJustWith}
 use Rattle.goo_store_plans.specs.NewLots.{known_lots, AreNewLots}
+use Rattle.goo_store_plans.specs.declared.known_rows.LotKey.{LotKey}
 use Rattle.goo_store_plans.specs.declared.lot_numbers.NumberedLot.{NumberedLot}
 use Rattle.goo_store_values.specs.declared.plants.Plant.{Plant}
 
@@ -52,6 +54,10 @@ with_rows lots new = fold (insert_by lot_key) lots new
 -- whether a lot of this key is among some
 abbrev pub is_among : List NumberedLot → List ℕ → Bool
 is_among xs key = list_any (λ x. eq_by_cmp text_cmp key (key_of x.lot)) xs
+
+-- whether a lot of this key is among those that are missing
+abbrev pub is_left_out : List LotKey → List ℕ → Bool
+is_left_out ks key = list_any (λ k. eq_by_cmp text_cmp key (key_in k)) ks
 
 -- What holds while the lots of a notice's parts are gathered: the rows that are new, beside the numbered lots, and the next number;
 -- whatever is put in for the parts that are left stands behind.

@@ -11,15 +11,16 @@ ghost use Rattle.goo_spec.specs.State.{text_cmp};
 ghost use Rattle.goo_tables_rows.specs.Rows.{lot_in, lot_key};
 ghost use Rattle.goo_store_plans.specs.AtHand.{HasRoom};
 ghost use Rattle.goo_store_changes.specs.Changes.{ChangeFits};
-ghost use Rattle.goo_store_plans.specs.Found.{AreStated, IsNext};
+ghost use Rattle.goo_store_plans.specs.Found.{AreLots, IsNext};
 ghost use Rattle.goo_store_plans.specs.GatheredLots.{AddsLot, ArePutIn, Gathers};
 ghost use Rattle.goo_store_plans.specs.LookingUp.{LooksUp};
-ghost use Rattle.goo_store_plans.specs.LotRows.{is_among, next_lot};
+ghost use Rattle.goo_store_plans.specs.LotRows.{is_among, is_left_out, next_lot};
 ghost use Rattle.goo_store_plans.specs.NewLots.{known_lots};
 ghost use Rattle.goo_store_plans.specs.StoreFaults.{BlamesDisk};
 ghost use Rattle.goo_store_values.specs.Passing.{Accepts, Passes};
 ghost use Rattle.goo_store_values.specs.declared.statement_fault.StatementFault.TheVariants.{Memory};
 
+use crate::known_rows::{KnownLots, LotKey};
 use crate::lot_numbers::NumberedLot;
 use crate::new_lots::lot_row;
 use goo_store_changes::table_change::TableChange;
@@ -130,23 +131,34 @@ fn is_among_lots(lots: &[NumberedLot], lot: &Lot) -> bool
     lots.iter().any(|known| is_known_as(known, lot))
 }
 
-/// Whether a lot of this origin, device and first day is in the table: one that is kept is. Any
+/// Whether a lot of the same origin, device and first day is among those that are missing.
+fn is_missing(missing: &[LotKey], lot: &Lot) -> bool
+    ensures { result ≡ is_left_out missing.now (key_of lot.now) }
+{
+    missing.iter().any(|key| key.is_key_of(lot))
+}
+
+/// Whether a lot of this origin, device and first day is in the table, as it is kept of some. Any
 /// other is looked up.
 fn is_there_already<S: Alter>(
     alloc: Global,
     conn: &mut Connection<S>,
-    kept: &[NumberedLot],
+    kept: &KnownLots,
     lot: &Lot,
 ) -> Result<bool, StatementFault>
     ensures looks { LooksUp (state S.Store conn.old) (state S.Store conn.new) result
-        (λ t known. AreStated t.lots kept.now
+        (λ t known. AreLots t.lots kept.now
         → known ≡ contains_key (known_lots t.lots) (key_of lot.now)) }
     ensures blames { BlamesDisk (state S.Store conn.old) (state S.Store conn.new) result (λ _. ⊤) }
     ensures outside { conn.old.in_transaction ≡ false → conn.new.in_transaction ≡ false }
 {
-    let among = is_among_lots(kept, lot);
+    let among = is_among_lots(&kept.found, lot);
     if among {
         return Ok(true);
+    }
+    let missing = is_missing(&kept.missing, lot);
+    if missing {
+        return Ok(false);
     }
     is_in_table(alloc, conn, lot)
 }
@@ -172,12 +184,12 @@ pub fn add_lot(alloc: Global, gathered: &mut Gathered, lot: &Lot) -> Result<(), 
 fn gather_lot<S: Alter>(
     alloc: Global,
     conn: &mut Connection<S>,
-    kept: &[NumberedLot],
+    kept: &KnownLots,
     gathered: &mut Gathered,
     part: &Part,
 ) -> Result<(), StatementFault>
     ensures looks { LooksUp (state S.Store conn.old) (state S.Store conn.new) result
-        (λ t _. AreStated t.lots kept.now → Gathers t.lots part.now gathered.old gathered.new) }
+        (λ t _. AreLots t.lots kept.now → Gathers t.lots part.now gathered.old gathered.new) }
     ensures blames { BlamesDisk (state S.Store conn.old) (state S.Store conn.new) result
         (λ _. gathered.old.next < 2 ^ 63) }
     ensures counts { OnOk result (gathered.new.next ≤ gathered.old.next + 1) }
@@ -196,17 +208,17 @@ fn gather_lot<S: Alter>(
     add_lot(alloc, gathered, &part.lot)
 }
 
-/// The lots of the parts that aren't known by then, in turn. Those that are kept aren't looked up,
-/// nor is the number of the first where it is known.
+/// The lots of the parts that aren't known by then, in turn. Those of which it is kept whether they
+/// are in the table aren't looked up, nor is the number of the first where it is known.
 pub fn gather_lots<S: Alter>(
     alloc: Global,
     conn: &mut Connection<S>,
     known: Option<u64>,
-    kept: &[NumberedLot],
+    kept: &KnownLots,
     parts: &[Part],
 ) -> Result<Gathered, StatementFault>
     ensures looks { LooksUp (state S.Store conn.old) (state S.Store conn.new) result
-        (λ t gathered. IsNext known lot_key t.lots → AreStated t.lots kept.now
+        (λ t gathered. IsNext known lot_key t.lots → AreLots t.lots kept.now
         → ArePutIn t.lots parts.now [] gathered) }
     ensures blames { BlamesDisk (state S.Store conn.old) (state S.Store conn.new) result
         (λ t. IsNext known lot_key t.lots × HasRoom (length parts.now) lot_key t.lots) }

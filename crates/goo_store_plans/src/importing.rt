@@ -10,13 +10,13 @@ ghost use Rattle.goo_spec_tables.specs.States.{known_arrival};
 ghost use Rattle.goo_store_plans.specs.AtHand.{HasRoom};
 ghost use Rattle.goo_store_plans.specs.Carrying.{CarriesOut, IsAccepted};
 ghost use Rattle.goo_store_changes.specs.Changes.{ChangeFits};
-ghost use Rattle.goo_store_plans.specs.Found.{AreStated, IsNext};
+ghost use Rattle.goo_store_plans.specs.Found.{AreLots, IsNext};
 ghost use Rattle.goo_store_plans.specs.LookingUp.{LooksUp};
 ghost use Rattle.goo_store_plans.specs.StoreFaults.{BlamesDisk};
 ghost use Rattle.goo_store_values.specs.declared.statement_fault.StatementFault.TheVariants.{Memory};
 
 use crate::gathered_lots::{Gathered, gather_lots};
-use crate::lot_numbers::NumberedLot;
+use crate::known_rows::KnownLots;
 use goo_notice::write;
 use goo_store_changes::table_change::TableChange;
 use goo_store_values::statement_fault::StatementFault;
@@ -44,18 +44,18 @@ fn notice_row(alloc: Global, notice: &Notice) -> Result<NoticeInRow, StatementFa
     })
 }
 
-/// The lots of the notice's parts that aren't known yet, and the notice. Of lots that are kept it
-/// is known that they are; `next_lot` is the number that the first of the others gets, where it is
-/// known.
+/// The lots of the notice's parts that aren't known yet, and the notice. Of the lots that are kept
+/// it is known whether they are in the table; `next_lot` is the number that the first new one gets,
+/// where it is known.
 pub fn import_changes<S: Alter>(
     alloc: Global,
     conn: &mut Connection<S>,
     next_lot: Option<u64>,
-    kept: &[NumberedLot],
+    kept: &KnownLots,
     import: &Import,
 ) -> Result<Gathered, StatementFault>
     ensures looks { LooksUp (state S.Store conn.old) (state S.Store conn.new) result
-        (λ t gathered. IsNext next_lot lot_key t.lots → AreStated t.lots kept.now
+        (λ t gathered. IsNext next_lot lot_key t.lots → AreLots t.lots kept.now
         → (q : Request) (reply : Reply) → q.command ≡ Command.Import import.now
         → IsAccepted t q reply → CarriesOut t q.command gathered) }
     ensures blames { BlamesDisk (state S.Store conn.old) (state S.Store conn.new) result

@@ -1,12 +1,18 @@
 //! What a shelf keeps of its look-ups for the next commit.
 
-ghost use Rattle.goo_store_plans.specs.Found.{AreNone, IsNoBasis};
+ghost use Rattle.std.specs.Prelude.{◌≡◌, ◌↔◌, IsTrue};
+ghost use Rattle.std.specs.Ordering.{eq_by_cmp};
+ghost use Rattle.goo_spec.specs.Lots.{key_of};
+ghost use Rattle.goo_spec.specs.State.{text_cmp};
+ghost use Rattle.goo_store_plans.specs.Found.{AreNone, AreNoLots, IsKeyOf, IsNoBasis, key_in};
 
 use crate::lot_numbers::NumberedLot;
 use goo_core_shelf::device::Device;
 use goo_tables_rows::meta::MetaRow;
 use goo_types::day::Day;
 use goo_types::gsrn::Gsrn;
+use goo_types::lot::Lot;
+use goo_types::registry_code::RegistryCode;
 use std::alloc::Global;
 
 /// A device that is registered, beside its number.
@@ -33,6 +39,26 @@ pub struct KnownBasis {
     pub correction: Option<u64>,
 }
 
+/// What a lot is known by.
+#[derive(Clone, Copy)]
+pub struct LotKey {
+    /// The code of the registry that issued its certificates.
+    pub origin: RegistryCode,
+    /// The number of its device.
+    pub device: Gsrn,
+    /// The first day of its production period.
+    pub first_day: Day,
+}
+
+/// Lots that were looked for, or that stand beside rows which were found.
+#[derive(Drop)]
+pub struct KnownLots {
+    /// Some of those that are in the table, under their numbers.
+    pub found: Vec<NumberedLot>,
+    /// Some of those that are not.
+    pub missing: Vec<LotKey>,
+}
+
 /// Numbers at which rows are known to end: no row reaches above one of them from below.
 #[derive(Clone, Copy)]
 pub struct Edges {
@@ -50,8 +76,8 @@ pub struct KnownRows {
     pub own: Option<MetaRow>,
     /// What is known of the basis of a declaration or of a correction.
     pub basis: KnownBasis,
-    /// Some lots that were found by their keys or beside rows that name them, under their numbers.
-    pub lots: Vec<NumberedLot>,
+    /// Some lots that are in the table, and some that are not.
+    pub lots: KnownLots,
     /// Where rows are known to end.
     pub edges: Edges,
 }
@@ -70,6 +96,36 @@ impl KnownBasis {
     }
 }
 
+impl LotKey {
+    /// Whether the lot has this origin, device and first day.
+    fn is_shared_by(&self, lot: &Lot) -> bool
+        ensures { IsTrue result ↔ IsKeyOf self.now lot.now }
+    {
+        self.origin == lot.origin()
+            && self.device == lot.device()
+            && self.first_day == lot.first_day()
+    }
+
+    /// Whether the lot is known by this.
+    pub(crate) fn is_key_of(&self, lot: &Lot) -> bool
+        ensures { result ≡ eq_by_cmp text_cmp (key_of lot.now) (key_in self.now) }
+    {
+        self.is_shared_by(lot)
+    }
+}
+
+impl KnownLots {
+    /// No lot is kept.
+    pub fn none(alloc: Global) -> KnownLots
+        ensures { AreNoLots result }
+    {
+        KnownLots {
+            found: Vec::new(alloc),
+            missing: Vec::new(alloc),
+        }
+    }
+}
+
 impl KnownRows {
     /// Nothing is kept.
     pub fn none(alloc: Global) -> KnownRows
@@ -78,7 +134,7 @@ impl KnownRows {
         KnownRows {
             own: None,
             basis: KnownBasis::none(),
-            lots: Vec::new(alloc),
+            lots: KnownLots::none(alloc),
             edges: Edges {
                 last: None,
                 asked: None,

@@ -20,7 +20,7 @@ ghost use Rattle.goo_store_plans.specs.Correcting.{CanAnswerCorrection};
 ghost use Rattle.goo_store_plans.specs.Declaring.{CanBeAnswered};
 ghost use Rattle.goo_store_plans.specs.EditChanges.{AreForEdits};
 ghost use Rattle.goo_store_plans.specs.LookingUp.{LooksUp};
-ghost use Rattle.goo_store_plans.specs.Found.{AreInTables, AreStated, IsBasisOf, IsRowOf};
+ghost use Rattle.goo_store_plans.specs.Found.{AreInTables, AreLots, IsBasisOf, IsRowOf};
 ghost use Rattle.goo_store_plans.specs.Needing.{CanGoByRow};
 ghost use Rattle.goo_store_plans.specs.PlanNeeds.{CanBePlanned, CanGo};
 ghost use Rattle.goo_store_plans.specs.Planned.{IsPlanned};
@@ -32,8 +32,7 @@ use crate::edit_changes::changes_of_edits;
 use crate::gathered_lots::Gathered;
 use crate::importing::import_changes;
 use crate::known_basis::{after_changes, with_numbers};
-use crate::known_rows::{KnownBasis, KnownRows};
-use crate::lot_numbers::NumberedLot;
+use crate::known_rows::{KnownBasis, KnownLots, KnownRows};
 use crate::new_corrections::correct_changes;
 use crate::new_declarations::declare_changes;
 use crate::new_receipts::receipt_row;
@@ -185,11 +184,11 @@ fn command_changes<S: Alter>(
     conn: &mut Connection<S>,
     own: Option<MetaRow>,
     basis: KnownBasis,
-    lots: &[NumberedLot],
+    lots: &KnownLots,
     plan: &Plan,
 ) -> Result<Gathered, StatementFault>
     ensures gathers { LooksUp (state S.Store conn.old) (state S.Store conn.new) result
-        (λ t gathered. IsRowOf own t → IsBasisOf basis t → AreStated t.lots lots.now → AreKept t
+        (λ t gathered. IsRowOf own t → IsBasisOf basis t → AreLots t.lots lots.now → AreKept t
         → AreInOrder t → Fits (state_of t) (rows_of t) plan.now
         → CarriesOut t plan.now.request.command gathered) }
     ensures blames { BlamesDisk (state S.Store conn.old) (state S.Store conn.new) result
@@ -261,7 +260,7 @@ fn changes_by<S: Alter>(
     } = known_rows;
     let act = command_changes(alloc, conn, own, basis, &lots, plan)?;
     let mut added = act.added;
-    added.extend_from_slice(&lots)?;
+    added.extend_from_slice(&lots.found)?;
     let edits = changes_of_edits(alloc, conn, &added, &plan.edits)?;
     joined(alloc, act.changes, edits, plan)
 }

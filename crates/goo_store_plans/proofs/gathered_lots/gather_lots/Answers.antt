@@ -6,7 +6,7 @@ use Rattle.sqlite_keyed.specs.Keyed.{next_key}
 use Rattle.goo_tables_rows.specs.Rows.{Tables, lot_key}
 use Rattle.goo_store_plans.specs.AtHand.{HasRoom}
 use Rattle.goo_store_changes.specs.Changes.{ChangeFits}
-use Rattle.goo_store_plans.specs.Found.{AreStated, IsNext}
+use Rattle.goo_store_plans.specs.Found.{AreLots, IsNext}
 use Rattle.goo_store_plans.specs.GatheredLots.{ArePutIn}
 use Rattle.goo_store_plans.specs.LookingUp.{LooksUp}
 use Rattle.goo_store_plans.proofs.LookUps.{looks_failed, looks_made, looks_then}
@@ -53,7 +53,7 @@ loop-part-preserved g c =
 
 pub returns-clause-looks : goal.returns-clause-looks
 returns-clause-looks g c =
-    subst (λ left. LooksUp (state g.S.Store c.args.conn.now) (state g.S.Store c.loop-part.conn) (Ok c.loop-part.gathered) (λ t gathered. IsNext c.args.known lot_key t.lots → AreStated t.lots c.args.kept.now → ArePutIn t.lots c.args.parts.now left gathered))
+    subst (λ left. LooksUp (state g.S.Store c.args.conn.now) (state g.S.Store c.loop-part.conn) (Ok c.loop-part.gathered) (λ t gathered. IsNext c.args.known lot_key t.lots → AreLots t.lots c.args.kept.now → ArePutIn t.lots c.args.parts.now left gathered))
     (drop_all c.loop-part.part-index c.args.parts.now (omega (arith, c.loop-part-test.false)))
     c.loop-part.invariant.looks
 

@@ -1,4 +1,4 @@
-use Rattle.std.proofs.Common.{◌∙◌, pos, refl}
+use Rattle.std.proofs.Common.{◌∙◌, ap, is_some, None, pos, refl, sym}
 use Rattle.sqlite.specs.Held.{state as view}
 use Rattle.std.proofs.Common.{◌&&◌}
 use Rattle.std.specs.Cmp.Lexicographic.{nat_list_cmp_total}
@@ -27,7 +27,16 @@ invariant_of-self g c = record {
   well = well (view g.S.Store c.args.self.now.conn) (view g.S.Store c.find_lot-found.new.conn) c.args.self.now.well _ _ c.find_lot-found.ensures.looks;
   known =
       lot_known (view g.S.Store c.args.self.now.conn) (view g.S.Store c.find_lot-found.new.conn) c.args.self.now.well _ _ c.find_lot-found.ensures.looks
-      c.args.self.now.known_rows (record { own = c.args.self.now.known_rows.own; basis = c.args.self.now.known_rows.basis; lots = c.read_found-lot.new.lots; edges = c.args.self.now.known_rows.edges }) refl refl (λ none is. is) c.args.self.now.known c.read_found-lot.ensures.kept;
+      (record { origin = c.args.origin; device = c.args.device.now; first_day = c.args.first_day })
+      (λ lots none.
+      ap is_some
+      (sym (known_row nat_list_cmp_total (λ l. key_of (lot_of l)) (lot_key c.args.origin c.args.device.now c.args.first_day) _
+      (λ l. (λ i. int_eq (pos l.origin) (pos ((c.from-origin.ensures ∙ c.get.ensures.value) i)) && (bytes_eq l.device (c.text.ensures.value i) && bytes_eq l.first_day ((c.as_str.ensures.value ∙ c.text-day.ensures.text) i)))
+      ∙ lot_test l.origin l.device l.first_day c.args.origin c.args.device.now c.args.first_day c.text-day.ensures.limit)
+      lot_of lots None None (sym none) refl)))
+      c.read_found-lot.result c.read_found-lot.ensures.value c.args.self.now.known_rows
+      (record { own = c.args.self.now.known_rows.own; basis = c.args.self.now.known_rows.basis; lots = record { found = c.read_found-lot.new.lots; missing = c.keep_missing.new.missing }; edges = c.args.self.now.known_rows.edges }) refl refl (λ none is. is) c.args.self.now.known
+      c.read_found-lot.ensures.kept c.keep_missing.ensures.kept;
   cached = lasts_on (view g.S.Store c.args.self.now.conn) (view g.S.Store c.find_lot-found.new.conn) c.args.self.now.well _ _ c.find_lot-found.ensures.looks c.args.self.now.cache c.is_ok-self.result c.is_ok-self.ensures.value c.args.self.now.cached;
 }
 

@@ -22,7 +22,7 @@ invariant_of-self g c = record {
   known =
       lots_known (view g.S.Store c.args.self.now.conn) (view g.S.Store c.ask_next-found.new.conn) c.args.self.now.well _ _ c.ask_next-found.ensures.looks (λ row. cons_option row [])
       (λ row is. first_beside (tables_in (view g.S.Store c.args.self.now.conn)) _ row is)
-      c.args.self.now.known_rows (record { own = c.args.self.now.known_rows.own; basis = c.args.self.now.known_rows.basis; lots = c.read_beyond-row.new.lots; edges = c.edges_after-self.result }) refl refl
+      c.args.self.now.known_rows (record { own = c.args.self.now.known_rows.own; basis = c.args.self.now.known_rows.basis; lots = record { found = c.read_beyond-row.new.lots; missing = c.args.self.now.known_rows.lots.missing }; edges = c.edges_after-self.result }) refl refl refl
       (λ none were. record {
         last = edge_after (view g.S.Store c.args.self.now.conn) (view g.S.Store c.ask_next-found.new.conn) c.args.self.now.well c.args.sought.now c.ask_next-found.ensures.dated c.args.after _ c.ask_next-found.ensures.looks
             c.read_beyond-row.result c.read_beyond-row.ensures.value c.edges_after-self.result.last c.edges_after-self.ensures.last none;

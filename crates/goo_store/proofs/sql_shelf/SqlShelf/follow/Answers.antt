@@ -21,7 +21,7 @@ invariant_of-self g c = record {
   known =
       lots_known (view g.S.Store c.args.self.now.conn) (view g.S.Store c.ask_page-found.new.conn) c.args.self.now.well _ _ c.ask_page-found.ensures.looks (λ rows. rows.items)
       (λ rows is. page_beside _ _ (tables_in (view g.S.Store c.args.self.now.conn)) rows.items is)
-      c.args.self.now.known_rows (record { own = c.args.self.now.known_rows.own; basis = c.args.self.now.known_rows.basis; lots = c.read_page-shown.new.lots; edges = c.args.self.now.known_rows.edges }) refl refl (λ none is. is) c.args.self.now.known c.read_page-shown.ensures.kept;
+      c.args.self.now.known_rows (record { own = c.args.self.now.known_rows.own; basis = c.args.self.now.known_rows.basis; lots = record { found = c.read_page-shown.new.lots; missing = c.args.self.now.known_rows.lots.missing }; edges = c.args.self.now.known_rows.edges }) refl refl refl (λ none is. is) c.args.self.now.known c.read_page-shown.ensures.kept;
   cached =
       lasts_with_page c.args.account c.args.row.last (view g.S.Store c.args.self.now.conn) (view g.S.Store c.ask_page-found.new.conn) c.args.self.now.well (λ rows. rows.items) _ c.ask_page-found.ensures.looks c.requires
       c.args.self.now.cache (record { answered = c.is_ok-self.result; accounts = c.args.self.now.cache.accounts; ahead = c.read_page-shown.new.ahead }) c.is_ok-self.ensures.value refl c.read_page-shown.ensures.ahead c.args.self.now.cached;

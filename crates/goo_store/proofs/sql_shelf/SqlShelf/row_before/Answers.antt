@@ -23,7 +23,7 @@ invariant_of-self g c = record {
   known =
       lots_known (view g.S.Store c.args.self.now.conn) (view g.S.Store c.piece_before-found.new.conn) c.args.self.now.well _ _ c.piece_before-found.ensures.looks (λ row. cons_option row [])
       (λ row is. last_beside (tables_in (view g.S.Store c.args.self.now.conn)) _ row is)
-      c.args.self.now.known_rows (record { own = c.args.self.now.known_rows.own; basis = c.args.self.now.known_rows.basis; lots = c.read_maybe-row.new.lots; edges = c.args.self.now.known_rows.edges }) refl refl (λ none is. is) c.args.self.now.known c.read_maybe-row.ensures.kept;
+      c.args.self.now.known_rows (record { own = c.args.self.now.known_rows.own; basis = c.args.self.now.known_rows.basis; lots = record { found = c.read_maybe-row.new.lots; missing = c.args.self.now.known_rows.lots.missing }; edges = c.args.self.now.known_rows.edges }) refl refl refl (λ none is. is) c.args.self.now.known c.read_maybe-row.ensures.kept;
   cached = lasts_on (view g.S.Store c.args.self.now.conn) (view g.S.Store c.piece_before-found.new.conn) c.args.self.now.well _ _ c.piece_before-found.ensures.looks c.args.self.now.cache c.is_ok-self.result c.is_ok-self.ensures.value c.args.self.now.cached;
 }
 
