@@ -18,7 +18,8 @@ from contextlib import contextmanager
 from measured import NEW, PROGRAM, goo, head, machine, peak, ratio, room, row, rust, say, usable
 from client import CLOSE, answered, free_port, post
 
-HEAD = ['Connections', 'Where', 'goo: a second', 'Processor seconds per 1,000', 'Peak MB', 'Rust: a second', 'Ratio', 'Rust, connections that go on', 'Ratio']
+HEAD = ['Connections', 'Where', 'goo: a second', 'Processor seconds per 1,000', 'Peak MB', 'Rust: a second', 'Ratio', 'Processor seconds per 1,000', 'Ratio',
+        'Rust, connections that go on: a second', 'Ratio']
 WORKS = [('look', 'memory'), ('request', 'memory'), ('request', 'tmpfs'), ('request', 'disk')]
 TURNS = 3
 DEVICE = '500000000000000012'
@@ -100,7 +101,7 @@ def of_goo(place, kind, seconds, folder):
 
 def of_rust(place, kind, connection, seconds, folder):
     port = free_port()
-    return measured([*rust(), *([] if place == 'memory' else [str(folder / 'rust')]), '--serve', str(port)], port, kind, connection, seconds, folder)[0]
+    return measured([*rust(), *([] if place == 'memory' else [str(folder / 'rust')]), '--serve', str(port)], port, kind, connection, seconds, folder)[:2]
 
 
 def measure(kind, place, seconds):
@@ -111,11 +112,19 @@ def measure(kind, place, seconds):
         others = []
         for connection in ('close', 'keep-alive') if rust() else ():
             with room(place) as folder:
-                others.append(of_rust(place, kind, connection, seconds, folder))
+                other, taken = of_rust(place, kind, connection, seconds, folder)
+                others += [other, -taken]
         turns.append((rate, -spent, -memory, *others))
     rate, spent, memory, *others = (max(column) for column in zip(*turns))
-    beside = [cell for other in others for cell in (f'{other:,.0f}', ratio(rate, other))] or [''] * 4
-    row([f'{kind}s', place, f'{rate:,.0f}', f'{-spent:.2f}', f'{-memory:.0f}', *beside])
+    row([f'{kind}s', place, f'{rate:,.0f}', f'{-spent:.3f}', f'{-memory:.0f}', *beside_rust(rate, spent, *others)])
+
+
+def beside_rust(rate, spent, *others):
+    """The cells of the other server: its rate and its processor seconds, and those of goo beside them; then its rate over connections that go on. Seconds are negative here."""
+    if not others:
+        return [''] * 6
+    closing, taken, going_on, _ = others
+    return [f'{closing:,.0f}', ratio(rate, closing), f'{-taken:.3f}', ratio(spent, taken), f'{going_on:,.0f}', ratio(rate, going_on)]
 
 
 def main(seconds=2):
