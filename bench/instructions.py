@@ -29,8 +29,10 @@ from measured import NEW, PROGRAM, SECONDS, fast, goo, head, ratio, room, row, r
 STATEMENT = re.compile(r'Entry.*fetch')
 CONNECT = re.compile(r'^sqlite::file::connect')
 OPENED = (8_000, 32_000)
+BEYOND = {'declarations': ('audit',), 'runs': ('statement', '1')}
+"""What reads a file of each workload once it is open."""
 ANSWERED = {'table': (2_000, 8_000), 'declarations': (2_000, 8_000), 'trades': (3_000, 12_000)}
-OF_FILES = ['Work', 'n', 'Statements', 'Instructions', 'of them in the library\'s check', 'Grows as', 'The rest grows as', '`integrity_check`', 'Ratio', 'Grows as']
+OF_FILES = ['Work', 'n', 'Statements', 'Instructions', 'of them in the library\'s check', 'Grows as', 'The rest grows as', 'Ours grows as', '`integrity_check`', 'Ratio', 'Grows as']
 SHARED = [('trades', False), ('trades', True), ('declarations', False), ('declarations', True)]
 OF_READS = ['Share of the instructions beyond opening', 'Audit, 8,000 declarations', 'Statement, 8,000 runs']
 OF_SHARES = ['Share of the instructions', 'Trades in memory', 'Trades on a file', 'Declarations in memory', 'Declarations on a file']
@@ -151,14 +153,14 @@ def statements(chosen, by_function=False):
 
 
 def of_file(name, size):
-    """What opening a file of a workload takes, what a statement of its first account does beyond that, and SQLite's own check of it."""
+    """What opening a file of a workload takes, what the reading of it (BEYOND) does besides, and SQLite's own check of it."""
     with room(fast()) as folder:
         path = folder / 'registry'
         workload(name, size, folder / 'lines')
         goo('init', '--db', path, *NEW)
         goo('run', '--db', path, given=folder / 'lines')
         opening = profiled(folder, [PROGRAM, 'run', '--db', path])
-        beyond = profiled(folder, [PROGRAM, 'statement', '1', '--db', path]).minus(opening) if name == 'runs' else None
+        beyond = profiled(folder, [PROGRAM, *BEYOND[name], '--db', path]).minus(opening)
         check = profiled(folder, ['sqlite3', path, 'PRAGMA integrity_check']) if shutil.which('sqlite3') else None
         return opening, beyond, check
 
@@ -170,6 +172,11 @@ def all_of(found):
 def of_check(found):
     """What the library's check of the file took, with all that it calls."""
     return sum(whole for function, whole in found.whole.items() if CONNECT.search(function))
+
+
+def of_us(found):
+    """What our crates took, without what they call."""
+    return sum(own for function, own in found.own.items() if crate_of(function).startswith('goo'))
 
 
 def grown(less, more):
@@ -202,22 +209,22 @@ def growth():
             exponent = math.log(all_of(found) / all_of(less), many / few)
             of_each = matching(found.calls, STATEMENT) / many
             title = f'{requests.title_of(name, times)}, {"on a file" if on_file else "in memory"}'
-            row([title, f'{many:,}', f'{of_each:.1f} a request', f'{all_of(found):,}', '', f'n^{exponent:.3f}', *[''] * 4])
+            row([title, f'{many:,}', f'{of_each:.1f} a request', f'{all_of(found):,}', '', f'n^{exponent:.3f}', *[''] * 5])
 
 
 def opening():
-    """Prints the rows of opening and of a statement, at the greater size."""
+    """Prints the rows of opening, of an audit and of a statement, at the greater size."""
     size = OPENED[-1]
-    for name in ('declarations', 'runs'):
+    for name, (word, *_) in BEYOND.items():
         few, many = (of_file(name, n) for n in OPENED)
         ours, theirs = all_of(many[0]), all_of(many[2])
         rest = ours - of_check(many[0])
         beside = [f'{theirs:,}', ratio(ours, theirs), grown(all_of(few[2]), theirs)] if theirs else [''] * 3
-        grows = [grown(all_of(few[0]), ours), grown(all_of(few[0]) - of_check(few[0]), rest)]
+        grows = [grown(all_of(few[0]), ours), grown(all_of(few[0]) - of_check(few[0]), rest), grown(of_us(few[0]), of_us(many[0]))]
         row([f'opening a file, {name}', f'{size:,}', '', f'{ours:,}', f'{1 - rest / ours:.0%}', *grows, *beside])
-        if many[1]:
-            of_each = matching(many[1].calls, STATEMENT) / size
-            row([f'`statement` beyond opening, {name}', f'{size:,}', f'{of_each:.1f} a run', f'{all_of(many[1]):,}', '', grown(all_of(few[1]), all_of(many[1])), *[''] * 4])
+        of_each = matching(many[1].calls, STATEMENT) / size
+        row([f'`{word}` beyond opening, {name}', f'{size:,}', f'{of_each:.1f} a {name[:-1]}', f'{all_of(many[1]):,}', '', grown(all_of(few[1]), all_of(many[1])), '',
+             grown(of_us(few[1]), of_us(many[1])), *[''] * 3])
 
 
 def crate_of(name):
