@@ -16,6 +16,7 @@ pub mod KeptKeys
 pub mod NamesRead
 pub mod CarriersThere
 pub mod LotsDeclared
+pub mod InTurn
 pub mod ByName
 pub mod KeptByName
 pub mod Judged

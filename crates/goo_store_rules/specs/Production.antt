@@ -104,11 +104,6 @@ standing_by own lots cs device p = standing_of own device cs p (get_by lot_key l
 abbrev pub is_due : (List ℕ → ℕ) → (List ℕ → ℕ) → List ℕ → Bool
 is_due count_of energy_of device = count_of device == (energy_of device / certificate)
 
--- the same of the device of a lot, where there is one
-abbrev pub is_lot_due : (List ℕ → ℕ) → (List ℕ → ℕ) → Option (List ℕ) → Bool
-is_lot_due count_of energy_of None = true
-is_lot_due count_of energy_of (Some device) = is_due count_of energy_of device
-
 -- the device of each of these lots, under the lot's number
 abbrev pub AreDevicesOf : List Lot → BTreeMap ℕ (List ℕ) → Type 0
 AreDevicesOf lots devices = (id : ℕ) → get nat_cmp devices id ≡ option_map (λ l. l.device) (get_by lot_key lots (pos id))

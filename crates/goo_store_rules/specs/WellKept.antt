@@ -135,6 +135,10 @@ bytes_pair p = (string_bytes p.0, string_bytes p.1)
 abbrev pub has_pair : BTreeSet (String Global × String Global) → List ℕ → List ℕ → Bool
 has_pair set a b = list_any (λ k. eq_by_cmp text_pair_cmp (a, b) (bytes_pair k)) set.keys
 
+-- a declaration of the lot's device with its first day
+abbrev pub is_of_lot : Lot → Declaration → Bool
+is_of_lot l d = bytes_eq l.device d.device && bytes_eq l.first_day d.first_day
+
 -- an own lot was declared
 abbrev pub is_declared : (List ℕ → List ℕ → Bool) → ℕ → Lot → Bool
 is_declared has own l = not (l.origin == own) || has l.device l.first_day

@@ -2,7 +2,7 @@
 
 ghost use Rattle.std.specs.Prelude.{◌≡◌, ◌+◌, ◌<◌, ◌^◌, ◌-◌, ◌≤◌, ℕ, List, true, cond, map, sum_by};
 ghost use Rattle.std.specs.Prelude.{is_some, IsSome, IfSome, IfOk, OnOk};
-ghost use Rattle.std.specs.BTreeMap.{get};
+ghost use Rattle.std.specs.BTreeMap.{get, keys};
 ghost use Rattle.std.specs.List.{list_all};
 ghost use Rattle.std.specs.Ordering.{nat_cmp};
 ghost use Rattle.goo_spec.specs.Energy.{is_taken_back};
@@ -11,7 +11,7 @@ ghost use Rattle.goo_tables_rows.specs.Rows.{Lot, lot_in};
 ghost use Rattle.goo_spec_tables.specs.Places.{place_of};
 ghost use Rattle.goo_spec_tables.specs.Readable.{is_lot};
 ghost use Rattle.goo_store_rules.specs.Correcting.{AreTakenBack};
-ghost use Rattle.goo_store_rules.specs.Production.{standing_by, is_due, is_lot_due, AreDevicesOf};
+ghost use Rattle.goo_store_rules.specs.Production.{standing_by, is_due, AreDevicesOf};
 ghost use Rattle.goo_store_rules.specs.Summing.{sum_at, left_at};
 
 use crate::declares::gsrn_in;
@@ -21,7 +21,6 @@ use crate::taken_back::is_taken;
 use goo_store_receipts::numbers::CERTIFICATE;
 use goo_tables_rows::lot::LotRow;
 use goo_tables_rows::piece::PieceRow;
-use goo_types::command::Declare;
 use goo_types::gsrn::Gsrn;
 use goo_types::limits::SERIALS;
 use std::alloc::{AllocError, Global};
@@ -138,47 +137,11 @@ fn has_its_due(counts: &BTreeMap<Gsrn, u128>, energy: &Energy, device: &Gsrn) ->
     sum_for(counts, device) == left_for(energy, device) / CERTIFICATE
 }
 
-/// Whether each device of these declarations was issued what is due.
-pub fn have_declared_due(
-    declared: &[Declare],
-    counts: &BTreeMap<Gsrn, u128>,
-    energy: &Energy,
-) -> bool
-    ensures { result
-        ≡ list_all (λ x. is_due (sum_at counts.now) (left_at energy.now) x.device) declared.now }
+/// Whether each device that has one of these sums was issued what is due. A device that has none is
+/// not among what they add up.
+pub fn are_due(sums: &BTreeMap<Gsrn, u128>, counts: &BTreeMap<Gsrn, u128>, energy: &Energy) -> bool
+    ensures { result ≡ list_all (is_due (sum_at counts.now) (left_at energy.now)) (keys sums.now) }
 {
-    declared.iter().all(|declaration| has_its_due(counts, energy, &declaration.device))
-}
-
-/// Whether the device of a row's lot was issued what is due.
-fn has_lot_due(
-    row: &PieceRow,
-    devices: &BTreeMap<u64, Gsrn>,
-    counts: &BTreeMap<Gsrn, u128>,
-    energy: &Energy,
-) -> bool
-    ensures { result
-        ≡ is_lot_due (sum_at counts.now) (left_at energy.now)
-        (get nat_cmp devices.now row.now.lot) }
-{
-    match devices.get(&row.lot) {
-        Some(device) => has_its_due(counts, energy, device),
-        None => true,
-    }
-}
-
-/// Whether each device of the lots of these rows was issued what is due.
-pub fn have_issued_due(
-    rows: &[PieceRow],
-    devices: &BTreeMap<u64, Gsrn>,
-    counts: &BTreeMap<Gsrn, u128>,
-    energy: &Energy,
-) -> bool
-    ensures { result
-        ≡ list_all
-        (λ row. is_lot_due (sum_at counts.now) (left_at energy.now)
-        (get nat_cmp devices.now row.lot)) rows.now }
-{
-    rows.iter()
-        .all(|row| has_lot_due(row, devices, counts, energy))
+    let mut devices = sums.keys();
+    devices.all(|device| has_its_due(counts, energy, device))
 }

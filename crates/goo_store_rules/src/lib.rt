@@ -7,6 +7,7 @@ pub mod cut;
 pub mod declared;
 mod declares;
 pub mod energy;
+mod in_turn;
 mod issued;
 pub mod judging;
 pub mod keeping;

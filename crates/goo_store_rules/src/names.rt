@@ -12,6 +12,7 @@ ghost use Rattle.goo_store_rules.specs.WellKept.{is_timely, has_declaration, is_
 ghost use Rattle.goo_store_rules.specs.WellKept.{is_withdrawn};
 
 use crate::declared::{corrections_are_declared, declared_periods, own_lots_are_declared};
+use crate::in_turn::are_declared_in_turn;
 use crate::marked::{closed_accounts, lot_origins, lots_over};
 use crate::named::{
     account_numbers, cancellation_numbers, lot_numbers, sent_numbers, withdrawal_numbers,
@@ -228,7 +229,8 @@ pub fn places_are_in_time(
 }
 
 /// Whether each lot of the registry of this code, and each correction, has a declaration of its
-/// device with its first day.
+/// device with its first day. The periods are looked up where lots don't come in the order of their
+/// declarations, or where there are corrections.
 ///
 /// # Errors
 ///
@@ -248,9 +250,13 @@ pub fn have_declarations(
         (λ row. has_declaration (map declaration_in declarations.now) (string_bytes row.device)
         (string_bytes row.first_day)) corrections.now)) }
 {
+    let are_in_turn = are_declared_in_turn(own, lots, declarations);
+    if are_in_turn && corrections.is_empty() {
+        return Ok(true);
+    }
     let periods = declared_periods(alloc, declarations)?;
     Ok(
-        own_lots_are_declared(own, lots, &periods)?
+        (are_in_turn || own_lots_are_declared(own, lots, &periods)?)
             && corrections_are_declared(corrections, &periods)?,
     )
 }

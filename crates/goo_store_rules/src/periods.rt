@@ -1,6 +1,8 @@
 //! Periods: whether those of each device rise, and the end of its last one.
 
-ghost use Rattle.std.specs.Prelude.{◌≡◌, ◌↔◌, ℕ, List, None, IsSome, IfSome, IfOk};
+ghost use Rattle.std.specs.Prelude.{◌≡◌, ◌↔◌, ℕ, List, Some, None, cond};
+ghost use Rattle.std.specs.Prelude.{IsSome, IfSome, IfOk, OnOk};
+ghost use Rattle.std.specs.Ordering.{eq_by_cmp};
 ghost use Rattle.std.specs.BTreeMap.{get};
 ghost use Rattle.goo_spec.specs.Declare.{declared_by, last_end};
 ghost use Rattle.goo_spec.specs.State.{text_cmp};
@@ -31,6 +33,30 @@ fn is_next(before: Option<Day>, period: &Declare) -> bool
     }
 }
 
+/// Takes a period in as the last one of its device, where it begins after the end of the one
+/// before; whether it does. The device is looked up once where it has a period already.
+///
+/// # Errors
+///
+/// Where an allocation is refused.
+fn take_in(ends: &mut BTreeMap<Gsrn, Day>, period: &Declare) -> Result<bool, AllocError>
+    ensures next { IfOk result
+        (λ yes. yes ≡ follows (get text_cmp ends.old period.now.device) period.now) }
+    ensures taken { OnOk result
+        ((q : List ℕ)
+        → get text_cmp ends.new q
+        ≡ cond (eq_by_cmp text_cmp period.now.device q) (Some period.now.last_day)
+        (get text_cmp ends.old q)) }
+{
+    if let Some(last_day) = ends.get_mut(&period.device) {
+        let next = is_next(Some(*last_day), period);
+        *last_day = period.last_day;
+        return Ok(next);
+    }
+    ends.insert(period.device, period.last_day)?;
+    Ok(is_next(None, period))
+}
+
 /// The end of each device's last period; none where the periods of a device don't rise.
 ///
 /// # Errors
@@ -47,10 +73,9 @@ pub fn last_days(
 {
     let mut ends = BTreeMap::new(alloc);
     for period in declared {
-        if !is_next(last_day_of(&ends, &period.device), period) {
+        if !take_in(&mut ends, period)? {
             return Ok(None);
         }
-        ends.insert(period.device, period.last_day)?;
     }
     Ok(Some(ends))
 }

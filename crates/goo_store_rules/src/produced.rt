@@ -4,6 +4,8 @@ ghost use Rattle.std.specs.Prelude.{◌≡◌, ◌↔◌, ℕ, List, true, map, 
 ghost use Rattle.std.specs.List.{list_all};
 ghost use Rattle.goo_tables_rows.specs.Beside.{beside};
 ghost use Rattle.goo_tables_rows.specs.Rows.{Lot, device_in, lot_in};
+ghost use Rattle.goo_types.specs.declared.command.Declare.{Declare as Declaration};
+ghost use Rattle.goo_tables_rows.specs.declared.piece.PieceRow.{PieceRow as Row};
 ghost use Rattle.goo_spec.specs.State.{Correction};
 ghost use Rattle.goo_spec_tables.specs.Places.{piece_of};
 ghost use Rattle.goo_spec_tables.specs.Readable.{is_device, is_lot};
@@ -15,7 +17,7 @@ ghost use Rattle.goo_store_rules.specs.Summing.{sum_at, KeepsEnergy};
 use crate::corrects::corrects_in;
 use crate::declares::declares_in;
 use crate::energy::{Energy, sum_energy};
-use crate::issued::{count_issued, devices_of_lots, have_declared_due, have_issued_due};
+use crate::issued::{are_due, count_issued, devices_of_lots};
 use crate::lowered::cover_corrections;
 use crate::periods::last_days;
 use crate::progress::keep_progress;
@@ -30,22 +32,16 @@ use goo_types::gsrn::Gsrn;
 use std::alloc::{AllocError, Global};
 use std::collections::BTreeMap;
 
-/// Whether each device of these declarations, and of the lots of these rows, was issued what is
-/// due.
-fn have_due(
-    declared: &[Declare],
-    energy: &Energy,
-    pieces: &[PieceRow],
-    devices: &BTreeMap<u64, Gsrn>,
-    counts: &BTreeMap<Gsrn, u128>,
-) -> bool
-    ensures { (lots : List Lot) → AreDevicesOf lots devices.now → (own : ℕ) → (cs : List Correction)
-        → ((q : List ℕ) → sum_at counts.now q ≡ sum_by (standing_by own lots cs q) pieces.now)
-        → KeepsEnergy declared.now cs energy.now
-        → IsTrue result
-        ↔ AreIssuedWhenDue own declared.now cs (map piece_of (beside lots pieces.now)) }
+/// Whether each device was issued what is due, by these sums of what was declared and of what was
+/// issued. A device in neither declared nothing and was issued nothing.
+fn have_due(energy: &Energy, counts: &BTreeMap<Gsrn, u128>) -> bool
+    ensures { (own : ℕ) (lots : List Lot) (xs : List Declaration) (cs : List Correction)
+        (rows : List Row)
+        → ((q : List ℕ) → sum_at counts.now q ≡ sum_by (standing_by own lots cs q) rows)
+        → KeepsEnergy xs cs energy.now
+        → IsTrue result ↔ AreIssuedWhenDue own xs cs (map piece_of (beside lots rows)) }
 {
-    have_declared_due(declared, counts, energy) && have_issued_due(pieces, devices, counts, energy)
+    are_due(&energy.declared, counts, energy) && are_due(counts, counts, energy)
 }
 
 /// Whether each device was issued, by the registry of this code, what is due for its declarations
@@ -75,7 +71,7 @@ fn were_issued_when_due(
     };
     let taken = withdrawals_of(alloc, corrected)?;
     let counts = count_issued(alloc, own, pieces, &devices, &taken)?;
-    Ok(have_due(declared, energy, pieces, &devices, &counts))
+    Ok(have_due(energy, &counts))
 }
 
 /// Whether each device's periods rise, its row keeps what they come to, and it was issued what is

@@ -5,5 +5,6 @@ use Rattle.goo_store_rules.proofs.produced.were_issued_when_due.Goals as goal
 
 pub returns : goal.returns
 returns c = λ sums good.
-    let are : AreDevicesOf (map lot_in c.args.lots.now) c.in-Some.devices = search rules in
-    c.have_due.ensures (map lot_in c.args.lots.now) are c.args.own c.args.corrected.now (c.in_ok-counts.ensures (map lot_in c.args.lots.now) are c.args.corrected.now c.in_ok-taken.ensures) sums
+    let lots = map lot_in c.args.lots.now in
+    let are : AreDevicesOf lots c.in-Some.devices = search rules in
+    c.have_due.ensures c.args.own lots c.args.declared.now c.args.corrected.now c.args.pieces.now (c.in_ok-counts.ensures lots are c.args.corrected.now c.in_ok-taken.ensures) sums
