@@ -10,7 +10,7 @@ use Rattle.goo_types.specs.Number.{code_of, serial_of}
 use Rattle.std.specs.Ordering.{nat_cmp, eq_by_cmp, is_lt, ordering_then}
 use Rattle.goo_spec.specs.State.{text_cmp}
 use Rattle.goo_spec.specs.Checks.{issuer}
-use Rattle.goo_tables_rows.specs.Rows.{Holder, Account, Lot, Device, Declaration, Withdrawal, NoticeOut}
+use Rattle.goo_tables_rows.specs.Rows.{Holder, Account, Lot, Device, Declaration, Correction, Withdrawal, NoticeOut}
 use Rattle.goo_tables_rows.specs.declared.peer.PeerRow.{PeerRow}
 use Rattle.goo_tables_rows.specs.declared.piece.PieceRow.{PieceRow}
 use Rattle.goo_spec_tables.specs.Renewed.{goes_on}
@@ -134,6 +134,14 @@ bytes_pair p = (string_bytes p.0, string_bytes p.1)
 
 abbrev pub has_pair : BTreeSet (String Global × String Global) → List ℕ → List ℕ → Bool
 has_pair set a b = list_any (λ k. eq_by_cmp text_pair_cmp (a, b) (bytes_pair k)) set.keys
+
+-- a lot of the device
+abbrev pub has_lot_device : List Lot → List ℕ → Bool
+has_lot_device lots device = list_any (λ l. eq_by_cmp text_cmp device l.device) lots
+
+-- a correction of the device
+abbrev pub has_corrected : List Correction → List ℕ → Bool
+has_corrected corrections device = list_any (λ c. eq_by_cmp text_cmp device c.device) corrections
 
 -- a declaration of the lot's device with its first day
 abbrev pub is_of_lot : Lot → Declaration → Bool

@@ -1,12 +1,12 @@
 //! Whether the declarations that rows name are there.
 
-ghost use Rattle.std.specs.Prelude.{◌≡◌, String as Text, map, string_bytes, IfOk};
+ghost use Rattle.std.specs.Prelude.{◌≡◌, ◌&&◌, String as Text, map, string_bytes, IfOk};
 ghost use Rattle.std.specs.List.{list_all};
 ghost use Rattle.std.specs.BTreeSet.{contains};
 ghost use Rattle.std.specs.declared.alloc.Global.{Global as Memory};
 ghost use Rattle.goo_tables_rows.specs.Rows.{declaration_in, lot_in};
 ghost use Rattle.goo_store_rules.specs.WellKept.{has_declaration, text_pair_cmp, bytes_pair};
-ghost use Rattle.goo_store_rules.specs.WellKept.{has_pair, is_declared};
+ghost use Rattle.goo_store_rules.specs.WellKept.{has_text, has_pair, is_declared};
 
 use crate::keys::has;
 use goo_tables_rows::correction::CorrectionRow;
@@ -15,24 +15,27 @@ use goo_tables_rows::lot::LotRow;
 use std::alloc::{AllocError, Global};
 use std::collections::BTreeSet;
 
-/// The devices and first days of the declarations.
+/// The devices and first days of the declarations of these devices.
 ///
 /// # Errors
 ///
 /// Where an allocation is refused.
-pub fn declared_periods(
+pub fn periods_of(
     alloc: Global,
+    devices: &BTreeSet<String>,
     rows: &[DeclarationRow],
 ) -> Result<BTreeSet<(String, String)>, AllocError>
     ensures { IfOk result
         (λ set. (device first_day : Text Memory)
         → contains (λ a b. text_pair_cmp (bytes_pair a) (bytes_pair b)) set (device, first_day)
-        ≡ has_declaration (map declaration_in rows.now) (string_bytes device)
-        (string_bytes first_day)) }
+        ≡ (has_text devices.now (string_bytes device) && has_declaration
+        (map declaration_in rows.now) (string_bytes device) (string_bytes first_day))) }
 {
     let mut set = BTreeSet::new(alloc);
     for row in rows {
-        set.insert((row.device.clone()?, row.first_day.clone()?))?;
+        if has(devices, &row.device) {
+            set.insert((row.device.clone()?, row.first_day.clone()?))?;
+        }
     }
     Ok(set)
 }

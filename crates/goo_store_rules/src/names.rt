@@ -11,13 +11,13 @@ ghost use Rattle.goo_store_rules.specs.WellKept.{has_lot_of, has_over, has_close
 ghost use Rattle.goo_store_rules.specs.WellKept.{is_timely, has_declaration, is_declared};
 ghost use Rattle.goo_store_rules.specs.WellKept.{is_withdrawn};
 
-use crate::declared::{corrections_are_declared, declared_periods, own_lots_are_declared};
+use crate::declared::{corrections_are_declared, own_lots_are_declared, periods_of};
 use crate::in_turn::are_declared_in_turn;
 use crate::marked::{closed_accounts, lot_origins, lots_over};
 use crate::named::{
     account_numbers, cancellation_numbers, lot_numbers, sent_numbers, withdrawal_numbers,
 };
-use crate::named_texts::{device_gsrns, holder_codes};
+use crate::named_texts::{corrected_devices, device_gsrns, devices_with_lots, holder_codes};
 use crate::there::{
     ActNumbers, accounts_are_held, cancellations_have_accounts, carriers_have_devices,
     carriers_have_lots, corrections_are_withdrawn, declarations_have_devices,
@@ -228,9 +228,56 @@ pub fn places_are_in_time(
     Ok(pieces_are_in_time(pieces, &over, &closed))
 }
 
+/// Whether each lot of the registry of this code has a declaration of its device with its first
+/// day. The declarations are looked up only where lots don't come in their order.
+///
+/// # Errors
+///
+/// Where an allocation is refused.
+fn lots_have_declarations(
+    alloc: Global,
+    own: u32,
+    lots: &[LotRow],
+    declarations: &[DeclarationRow],
+) -> Result<bool, AllocError>
+    ensures { IfOk result
+        (λ yes. yes
+        ≡ list_all
+        (λ row. is_declared (has_declaration (map declaration_in declarations.now)) own
+        (lot_in row)) lots.now) }
+{
+    if are_declared_in_turn(own, lots, declarations) {
+        return Ok(true);
+    }
+    let devices = devices_with_lots(alloc, lots)?;
+    let periods = periods_of(alloc, &devices, declarations)?;
+    own_lots_are_declared(own, lots, &periods)
+}
+
+/// Whether each correction has a declaration of its device with its first day. The declarations of
+/// corrected devices alone are looked up.
+///
+/// # Errors
+///
+/// Where an allocation is refused.
+fn corrections_have_declarations(
+    alloc: Global,
+    corrections: &[CorrectionRow],
+    declarations: &[DeclarationRow],
+) -> Result<bool, AllocError>
+    ensures { IfOk result
+        (λ yes. yes
+        ≡ list_all
+        (λ row. has_declaration (map declaration_in declarations.now) (string_bytes row.device)
+        (string_bytes row.first_day)) corrections.now) }
+{
+    let devices = corrected_devices(alloc, corrections)?;
+    let periods = periods_of(alloc, &devices, declarations)?;
+    corrections_are_declared(corrections, &periods)
+}
+
 /// Whether each lot of the registry of this code, and each correction, has a declaration of its
-/// device with its first day. The periods are looked up where lots don't come in the order of their
-/// declarations, or where there are corrections.
+/// device with its first day.
 ///
 /// # Errors
 ///
@@ -250,14 +297,9 @@ pub fn have_declarations(
         (λ row. has_declaration (map declaration_in declarations.now) (string_bytes row.device)
         (string_bytes row.first_day)) corrections.now)) }
 {
-    let are_in_turn = are_declared_in_turn(own, lots, declarations);
-    if are_in_turn && corrections.is_empty() {
-        return Ok(true);
-    }
-    let periods = declared_periods(alloc, declarations)?;
     Ok(
-        (are_in_turn || own_lots_are_declared(own, lots, &periods)?)
-            && corrections_are_declared(corrections, &periods)?,
+        lots_have_declarations(alloc, own, lots, declarations)?
+            && corrections_have_declarations(alloc, corrections, declarations)?,
     )
 }
 
