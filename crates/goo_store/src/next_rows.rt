@@ -133,7 +133,7 @@ pub fn ask_page<S: Alter>(
 ) -> Result<Vec<JoinedRow>, Error>
     ensures looks { Looks (view S.Store conn.old) (view S.Store conn.new) result
         (λ t found. map joined_in found.items
-        ≡ take 64 (filter (begins_beyond (Naming account) row.now.last) (pieces_beside t))) }
+        ≡ take 256 (filter (begins_beyond (Naming account) row.now.last) (pieces_beside t))) }
     ensures readable { FailsOnlyByFault (view S.Store conn.old) (view S.Store conn.new) result
         (λ t. All joined_readable (map joined_columns (pieces_beside t))) }
     ensures outside { conn.old.in_transaction ≡ false → conn.new.in_transaction ≡ false }

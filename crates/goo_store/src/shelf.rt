@@ -364,7 +364,7 @@ impl<S: Alter> Shelf for SqlShelf<S> {
         note_fault(held::is_there(found), &mut self.refused)
     }
 
-    // In a walk the row was read ahead: one statement shows 64 rows.
+    // In a walk the row was read ahead: one statement shows 256 rows.
     fn next_of(&mut self, account: AccountNo, after: Option<Number>) -> Result<Option<Piece>, Fault>
         ensures looks { Looks (seen_by self.old) (seen_by self.new) result
             (λ found. found ≡ next_row account after (seen_by self.old).rows) }

@@ -125,7 +125,7 @@ pub record IsLeftOf (account after n : ℕ) (rows left : List Piece) : Type 0 wh
   pub edge : list_any (λ p. p.last == after) rows ≡ true
   pub shown : left ≡ take n (filter (beyond account after) rows)
 
-pub page_left : (account after : ℕ) (rows page : List Piece) → IsPageOf account after rows page → IsLeftOf account after 64 rows page
+pub page_left : (account after : ℕ) (rows page : List Piece) → IsPageOf account after rows page → IsLeftOf account after 256 rows page
 page_left account after rows page it = record { rising = it.rising; edge = it.edge; shown = it.shown }
 
 next_first : (account after : ℕ) (rows : List Piece) → IsRising rows → list_any (λ p. p.last == after) rows ≡ true → next_row account (Some after) rows ≡ first_of (filter (beyond account after) rows)
@@ -176,30 +176,30 @@ rising_taken (suc n) low [] rising = tt
 rising_taken (suc n) low (p ∷ ps) rising = (rising.0, rising.1, rising_taken n (p.last + 1) ps rising.2)
 
 module _ (account after : ℕ) where
-  page_shown : (t : Tables) (rows : List JoinedRow) → map joined_in rows ≡ take 64 (filter (asked account after) (pieces_beside t)) → map piece_of (map joined_in rows) ≡ take 64 (filter (beyond account after) (rows_of t))
+  page_shown : (t : Tables) (rows : List JoinedRow) → map joined_in rows ≡ take 256 (filter (asked account after) (pieces_beside t)) → map piece_of (map joined_in rows) ≡ take 256 (filter (beyond account after) (rows_of t))
   unfolding rows_of
   page_shown t rows is =
       let all = filter (asked account after) (pieces_beside t) in
-      ap (map piece_of) is ∙ sym (take-map piece_of 64 all)
-      ∙ ap (take 64)
+      ap (map piece_of) is ∙ sym (take-map piece_of 256 all)
+      ∙ ap (take 256)
       (filtered (asked account after) (beyond account after) (λ a. λ i. (number_is a.0.account account ∙ sym (ap (λ n. n == account) (place_account a.0.kind a.0.account a.0.act))) i && nat_lt after a.0.first)
       (pieces_beside t) all (map piece_of all) refl refl)
 
-  pub page_readable : (db : Database) (t : Tables) → Stands db t → AreKept t → (rows : List JoinedRow) → map joined_in rows ≡ take 64 (filter (asked account after) (pieces_beside t)) → AreReadablePieces rows
+  pub page_readable : (db : Database) (t : Tables) → Stands db t → AreKept t → (rows : List JoinedRow) → map joined_in rows ≡ take 256 (filter (asked account after) (pieces_beside t)) → AreReadablePieces rows
   unfolding rows_of
   page_readable db t stands kept rows is =
       let all = filter (asked account after) (pieces_beside t) in record {
-        each = unmapped IsReadablePiece joined_in rows (subst (All IsReadablePiece) (sym is) (All-take IsReadablePiece 64 all (All-filter (asked account after) IsReadablePiece (pieces_beside t) (pieces_kept db t stands kept))));
-        rising = subst IsRising (sym (ap (map piece_of) is ∙ sym (take-map piece_of 64 all))) (rising_taken 64 0 (map piece_of all) (rising_left piece_of (asked account after) 0 (pieces_beside t) kept.rising));
+        each = unmapped IsReadablePiece joined_in rows (subst (All IsReadablePiece) (sym is) (All-take IsReadablePiece 256 all (All-filter (asked account after) IsReadablePiece (pieces_beside t) (pieces_kept db t stands kept))));
+        rising = subst IsRising (sym (ap (map piece_of) is ∙ sym (take-map piece_of 256 all))) (rising_taken 256 0 (map piece_of all) (rising_left piece_of (asked account after) 0 (pieces_beside t) kept.rising));
       }
 
-  pub page_beside : (t : Tables) (rows : List JoinedRow) → map joined_in rows ≡ take 64 (filter (asked account after) (pieces_beside t)) → All (λ r. IsBeside t.lots (joined_in r)) rows
+  pub page_beside : (t : Tables) (rows : List JoinedRow) → map joined_in rows ≡ take 256 (filter (asked account after) (pieces_beside t)) → All (λ r. IsBeside t.lots (joined_in r)) rows
   page_beside t rows is =
       let all = filter (asked account after) (pieces_beside t) in
-      unmapped (IsBeside t.lots) joined_in rows (subst (All (IsBeside t.lots)) (sym is) (All-take (IsBeside t.lots) 64 all (All-filter (asked account after) (IsBeside t.lots) (pieces_beside t) (pieces_beside_lots t))))
+      unmapped (IsBeside t.lots) joined_in rows (subst (All (IsBeside t.lots)) (sym is) (All-take (IsBeside t.lots) 256 all (All-filter (asked account after) (IsBeside t.lots) (pieces_beside t) (pieces_beside_lots t))))
 
   -- what is kept after a page was read is so
-  pub lasts_with_page : (old new : State) (it : IsWell old) {V : Type 0} (rows : V → List JoinedRow) (r : Result V Error) → (looks : Looks old new r (λ t found. map joined_in (rows found) ≡ take 64 (filter (asked account after) (pieces_beside t))))
+  pub lasts_with_page : (old new : State) (it : IsWell old) {V : Type 0} (rows : V → List JoinedRow) (r : Result V Error) → (looks : Looks old new r (λ t found. map joined_in (rows found) ≡ take 256 (filter (asked account after) (pieces_beside t))))
       → (defects old ≡ 0 → IsEdge (Some after) (rows_of (tables_in old))) → (first last : Cache) → last.answered ≡ is_ok r → last.accounts ≡ first.accounts
       → KeepsAhead r rows account after first.ahead.items last.ahead.items → HoldsCache old first → HoldsCache new last
   lasts_with_page old new it {V} rows r looks edge first last answered accounts keeps cached = record {
@@ -212,7 +212,7 @@ module _ (account after : ℕ) where
     is_open = opened new r last.answered answered looks.works;
   }
     where
-      go : defects old ≡ 0 → (q : Result V Error) → IfOk q (λ found. map joined_in (rows found) ≡ take 64 (filter (asked account after) (pieces_beside (tables_in old)))) → KeepsAhead q rows account after first.ahead.items last.ahead.items
+      go : defects old ≡ 0 → (q : Result V Error) → IfOk q (λ found. map joined_in (rows found) ≡ take 256 (filter (asked account after) (pieces_beside (tables_in old)))) → KeepsAhead q rows account after first.ahead.items last.ahead.items
           → AreAhead (rows_of (tables_in old)) last.ahead.items
       go early (Ok x) found keep = keep (rows_of (tables_in old)) (cached.so early).ahead (record { rising = (it.kept early).rising; edge = edge early; shown = page_shown (tables_in old) (rows x) found })
       go early (Err e) found keep = subst (AreAhead (rows_of (tables_in old))) (sym keep) (cached.so early).ahead

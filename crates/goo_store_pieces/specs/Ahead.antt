@@ -21,11 +21,11 @@ AreAhead rows xs = All (λ x. x.row ≡ next_row x.account (Some x.after) rows) 
 abbrev pub beyond : ℕ → ℕ → Piece → Bool
 beyond account after p = is_sought (Naming account) p && nat_lt after p.first
 
--- the page has the first 64 of the account's rows that begin above a number at which a row ends
+-- the page has the first 256 of the account's rows that begin above a number at which a row ends
 pub record IsPageOf (account after : ℕ) (rows page : List Piece) : Type 0 where
   pub rising : IsRising rows
   pub edge : IsEdge (Some after) rows
-  pub shown : page ≡ take 64 (filter (beyond account after) rows)
+  pub shown : page ≡ take 256 (filter (beyond account after) rows)
 
 -- what is kept after a page was read stays right: what was kept before, where the page was not read
 abbrev pub KeepsAhead : {V : Type 0} → Result V Error → (V → List JoinedRow) → ℕ → ℕ → List RowAhead → List RowAhead → Type 0

@@ -18,7 +18,7 @@ use sqlite::Error;
 use std::alloc::Global;
 
 /// How many rows the statement for a page shows at most.
-const PAGE: usize = 64;
+const PAGE: usize = 256;
 
 /// What comes after one of an account's rows.
 #[derive(Clone, Copy)]
@@ -39,19 +39,19 @@ fn is_after(kept: &RowAhead, account: AccountNo, after: u64) -> bool
     kept.account == account && kept.after == after && is_none_or_beyond(&kept.row, after)
 }
 
-/// What comes after an account's row that ends at a number, where it is kept.
+/// What comes after an account's row that ends at a number, where it is kept. A page's rows are
+/// kept as they rise, so that it is found by halves.
 pub fn ahead_among(ahead: &[RowAhead], account: AccountNo, after: u64) -> Option<Option<Piece>>
     ensures kept { IfSome result
         (λ row. (rows : List Piece) → AreAhead rows ahead.now
         → row ≡ next_row account (Some after) rows) }
     ensures beyond { IfSome result (λ row. IfSome row (EndsFrom (after + 1))) }
 {
-    for kept in ahead {
-        if is_after(kept, account, after) {
-            return Some(kept.row);
-        }
+    let at = ahead.partition_point(|kept| kept.after < after);
+    match ahead.get(at) {
+        Some(kept) if is_after(kept, account, after) => Some(kept.row),
+        _ => None,
     }
-    None
 }
 
 /// Keeps what comes after an account's row; where memory for it is refused, it isn't kept.

@@ -12,6 +12,7 @@ ghost use Rattle.goo_store_changes.specs.Changes.{made, made_all};
 ghost use Rattle.goo_store_pieces.specs.Caching.{AreAccountsOf, AreLeft, IsCacheOf};
 
 use crate::ahead::{RowAhead, ahead_among};
+use crate::room::make_room;
 use goo_core_shelf::account::Account;
 use goo_store_changes::table_change::TableChange;
 use goo_types::account_no::AccountNo;
@@ -61,16 +62,6 @@ fn account_among(accounts: &[NumberedAccount], number: AccountNo) -> Option<Acco
     None
 }
 
-/// Makes room for an account more: where the most are kept, they go.
-fn make_room(accounts: &mut Vec<NumberedAccount>)
-    ensures kept { (s : State) → AreAccountsOf s accounts.old.items
-        → AreAccountsOf s accounts.new.items }
-{
-    if accounts.len() >= MOST_ACCOUNTS {
-        accounts.clear();
-    }
-}
-
 /// Keeps the account that was looked up by its number, if it was found; where memory for it is
 /// refused, it isn't kept.
 pub fn keep_account(
@@ -84,7 +75,7 @@ pub fn keep_account(
     let Ok(Some(account)) = read else {
         return;
     };
-    make_room(accounts);
+    make_room(accounts, MOST_ACCOUNTS);
     let account = *account;
     let _kept = accounts.extend_from_slice(&[NumberedAccount { number, account }]);
 }

@@ -6,6 +6,7 @@ ghost use Rattle.goo_tables_rows.specs.Rows.{Lot as RowOfLot};
 ghost use Rattle.goo_store_plans.specs.Found.{AreMissing, AreStated, IsMissing, IsStated};
 ghost use Rattle.goo_store_values.specs.declared.statement_fault.StatementFault.TheVariants.{Memory};
 
+use crate::room::make_room;
 use goo_store_plans::known_rows::LotKey;
 use goo_store_plans::lot_numbers::NumberedLot;
 use goo_store_values::statement_fault::StatementFault;
@@ -21,16 +22,6 @@ fn is_kept(lots: &[NumberedLot], number: u64) -> bool
     lots.iter().any(|lot| lot.number == number)
 }
 
-/// Makes room for a lot more: where the most are kept, they go.
-fn make_room(lots: &mut Vec<NumberedLot>)
-    ensures kept { (known : List RowOfLot) → AreStated known lots.old.items
-        → AreStated known lots.new.items }
-{
-    if lots.len() >= MOST_LOTS {
-        lots.clear();
-    }
-}
-
 /// Keeps the lot that the row under this number states, unless one is kept under it.
 pub fn keep_lot(lots: &mut Vec<NumberedLot>, number: u64, lot: &Lot) -> Result<(), StatementFault>
     ensures kept { (known : List RowOfLot) → AreStated known lots.old.items
@@ -40,19 +31,9 @@ pub fn keep_lot(lots: &mut Vec<NumberedLot>, number: u64, lot: &Lot) -> Result<(
     if is_kept(lots, number) {
         return Ok(());
     }
-    make_room(lots);
+    make_room(lots, MOST_LOTS);
     lots.extend_from_slice(&[NumberedLot { number, lot: *lot }])?;
     Ok(())
-}
-
-/// Makes room for a lot more that is missing: where the most are kept, they go.
-fn make_room_for_missing(missing: &mut Vec<LotKey>)
-    ensures kept { (known : List RowOfLot) → AreMissing known missing.old.items
-        → AreMissing known missing.new.items }
-{
-    if missing.len() >= MOST_LOTS {
-        missing.clear();
-    }
 }
 
 /// Keeps that a lot which was looked up by this key is missing, if it wasn't found; where memory
@@ -68,6 +49,6 @@ pub fn keep_missing(
     let Ok(None) = read else {
         return;
     };
-    make_room_for_missing(missing);
+    make_room(missing, MOST_LOTS);
     let _kept = missing.extend_from_slice(&[key]);
 }

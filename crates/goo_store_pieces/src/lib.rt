@@ -6,3 +6,4 @@ pub mod ahead;
 pub mod cache;
 pub mod kept_lots;
 pub mod pieces;
+pub mod room;

@@ -33,8 +33,8 @@ fn is_next(before: Option<Day>, period: &Declare) -> bool
     }
 }
 
-/// Takes a period in as the last one of its device, where it begins after the end of the one
-/// before; whether it does. The device is looked up once where it has a period already.
+/// Takes a period in as the last one of its device; whether it begins after the end of the one
+/// before. The device is looked up once where it has a period already.
 ///
 /// # Errors
 ///

@@ -147,9 +147,9 @@ module _ (where_terms : List Term) (params : Row) (old : State) (t : Tables) (it
         answer_covered (joined_query where_terms rising (pos 1)) db params env (pairs t.pieces t.lots) covers (λ a. is_of_lot a && q a) on_and refl refl found joined_columns (all-filter Shows q (pieces_beside t) shows)
         (IsPermutation-same _ _ (passing_pairs t.lots t.pieces q it.lots.rise)) (ascending_weaker _ _ (λ a b h. last_key h) found rises) rows
 
-    pub shows_page : IsAnswer (joined_query where_terms rising (pos 64)) db params rows → rows ≡ take 64 (map joined_columns found)
+    pub shows_page : IsAnswer (joined_query where_terms rising (pos 256)) db params rows → rows ≡ take 256 (map joined_columns found)
     shows_page =
-        answer_covered (joined_query where_terms rising (pos 64)) db params env (pairs t.pieces t.lots) covers (λ a. is_of_lot a && q a) on_and refl refl found joined_columns (all-filter Shows q (pieces_beside t) shows)
+        answer_covered (joined_query where_terms rising (pos 256)) db params env (pairs t.pieces t.lots) covers (λ a. is_of_lot a && q a) on_and refl refl found joined_columns (all-filter Shows q (pieces_beside t) shows)
         (IsPermutation-same _ _ (passing_pairs t.lots t.pieces q it.lots.rise)) (ascending_weaker _ _ (λ a b h. last_key h) found rises) rows
 
     pub shows_last : IsAnswer (joined_query where_terms falling (pos 1)) db params rows → rows ≡ take 1 (map joined_columns (filter q (reverse (pieces_beside t))))
@@ -172,10 +172,10 @@ module _ (where_terms : List Term) (params : Row) (old : State) (t : Tables) (it
         subst (λ s. All joined_readable s) (sym (shows_first passes (λ _. refl) rows answer))
         (All-take joined_readable 1 (map joined_columns (filter passes (pieces_beside t))) (readable_left joined_readable joined_columns passes (pieces_beside t) all))
 
-    pub readable_page : IsAnswer (joined_query where_terms rising (pos 64)) db params rows → All joined_readable rows
+    pub readable_page : IsAnswer (joined_query where_terms rising (pos 256)) db params rows → All joined_readable rows
     readable_page answer =
         subst (λ s. All joined_readable s) (sym (shows_page passes (λ _. refl) rows answer))
-        (All-take joined_readable 64 (map joined_columns (filter passes (pieces_beside t))) (readable_left joined_readable joined_columns passes (pieces_beside t) all))
+        (All-take joined_readable 256 (map joined_columns (filter passes (pieces_beside t))) (readable_left joined_readable joined_columns passes (pieces_beside t) all))
 
     pub readable_falling : IsAnswer (joined_query where_terms falling (pos 1)) db params rows → All joined_readable rows
     readable_falling answer =
@@ -274,21 +274,21 @@ next_of_shows old account after t it x rows answer read =
 -- ---- page_of_account
 
 abbrev pub page_of_text : List ℕ
-page_of_text = codes "SELECT p.first, p.last, p.lot, p.kind, p.account, p.act, l.id, l.origin, l.device, l.country, l.site, l.tech, l.source, l.capacity_w, l.commissioned, l.support, l.first_day, l.last_day, l.expires_on, l.issued_on, c.carrier FROM piece AS p JOIN lot AS l ON l.id = p.lot LEFT JOIN lot_carrier AS c ON c.lot = l.id WHERE p.account = ?1 AND p.first > ?2 ORDER BY p.first LIMIT 64"
+page_of_text = codes "SELECT p.first, p.last, p.lot, p.kind, p.account, p.act, l.id, l.origin, l.device, l.country, l.site, l.tech, l.source, l.capacity_w, l.commissioned, l.support, l.first_day, l.last_day, l.expires_on, l.issued_on, c.carrier FROM piece AS p JOIN lot AS l ON l.id = p.lot LEFT JOIN lot_carrier AS c ON c.lot = l.id WHERE p.account = ?1 AND p.first > ?2 ORDER BY p.first LIMIT 256"
 
 abbrev pub page_of_query : Query
-page_of_query = joined_query next_of_where rising (pos 64)
+page_of_query = joined_query next_of_where rising (pos 256)
 
 pub page_of_asks : Asks page_of_text page_of_query (λ (a : ℕ × ℕ). Int (pos a.0) ∷ Int (pos a.1) ∷ [])
 unfolding understood everything
 page_of_asks = record { names = _; is = refl; plain = (refl, refl); unlisted = refl; suits = λ _. refl }
 
 pub page_of_shows : (old : State) (account : ℕ) (after : ℕ) → Says old page_of_query (Int (pos account) ∷ Int (pos after) ∷ []) (λ (xs : List JoinedRow) rows. AllZip joined_reads rows xs)
-    (λ t xs. map joined_in xs ≡ take 64 (filter (λ (a : PieceRow × Lot). int_eq (pos a.0.account) (pos account) && nat_lt after a.0.first) (pieces_beside t)))
+    (λ t xs. map joined_in xs ≡ take 256 (filter (λ (a : PieceRow × Lot). int_eq (pos a.0.account) (pos account) && nat_lt after a.0.first) (pieces_beside t)))
 page_of_shows old account after t it xs rows answer read =
     let q = λ (a : PieceRow × Lot). int_eq (pos a.0.account) (pos account) && nat_lt after a.0.first in
     let shown = shows_page next_of_where (Int (pos account) ∷ Int (pos after) ∷ []) old t it q (λ a. then_term (at_ints false Eq (pos a.0.account) (pos account)) (last_term (at_ints false Gt (pos a.0.first) (pos after)))) rows answer in
-    all_listed joined_reads joined_columns joined_in joined_same (take 64 (filter q (pieces_beside t))) xs (subst (λ l. AllZip joined_reads l xs) (shown ∙ take-map joined_columns 64 (filter q (pieces_beside t))) read)
+    all_listed joined_reads joined_columns joined_in joined_same (take 256 (filter q (pieces_beside t))) xs (subst (λ l. AllZip joined_reads l xs) (shown ∙ take-map joined_columns 256 (filter q (pieces_beside t))) read)
 
 -- ---- next_expiring
 

@@ -141,7 +141,7 @@ pub fn next_of_account<S: Alter>(
     )
 }
 
-/// The first 64 pieces that name the account and begin above `after`, or all of them where there
+/// The first 256 pieces that name the account and begin above `after`, or all of them where there
 /// are fewer, each beside its lot.
 ///
 /// # Errors
@@ -158,7 +158,7 @@ pub fn page_of_account<S: Alter>(
     requires { after < 2 ^ 63 }
     ensures looks { Looks (state S.Store conn.old) (state S.Store conn.new) result
         (λ t found. map joined_in found.items
-        ≡ take 64
+        ≡ take 256
         (filter (λ a. int_eq (pos a.0.account) (pos account) && nat_lt after a.0.first)
         (pieces_beside t))) }
     ensures readable { FailsOnlyByFault (state S.Store conn.old) (state S.Store conn.new) result
@@ -169,7 +169,7 @@ pub fn page_of_account<S: Alter>(
     ask_all(
         alloc,
         conn,
-        "SELECT p.first, p.last, p.lot, p.kind, p.account, p.act, l.id, l.origin, l.device, l.country, l.site, l.tech, l.source, l.capacity_w, l.commissioned, l.support, l.first_day, l.last_day, l.expires_on, l.issued_on, c.carrier FROM piece AS p JOIN lot AS l ON l.id = p.lot LEFT JOIN lot_carrier AS c ON c.lot = l.id WHERE p.account = ?1 AND p.first > ?2 ORDER BY p.first LIMIT 64",
+        "SELECT p.first, p.last, p.lot, p.kind, p.account, p.act, l.id, l.origin, l.device, l.country, l.site, l.tech, l.source, l.capacity_w, l.commissioned, l.support, l.first_day, l.last_day, l.expires_on, l.issued_on, c.carrier FROM piece AS p JOIN lot AS l ON l.id = p.lot LEFT JOIN lot_carrier AS c ON c.lot = l.id WHERE p.account = ?1 AND p.first > ?2 ORDER BY p.first LIMIT 256",
         &[small(account), number(after)],
     )
 }

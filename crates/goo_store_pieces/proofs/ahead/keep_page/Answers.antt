@@ -6,7 +6,7 @@ use Rattle.goo_store_pieces.proofs.Pages.{IsLeftOf, ends, goes, page_left}
 use Rattle.goo_store_pieces.proofs.ahead.keep_page.Goals as goal
 
 pub loop-row-init : goal.loop-row-init
-loop-row-init c rows page = (subst (AreAhead rows) (sym c.clear.ensures.items) (All-nil _), (64, refl, page_left c.args.account c.args.after rows c.args.page.now page))
+loop-row-init c rows page = (subst (AreAhead rows) (sym c.clear.ensures.items) (All-nil _), (256, refl, page_left c.args.account c.args.after rows c.args.page.now page))
 
 pub loop-row-preserved : goal.loop-row-preserved
 loop-row-preserved c rows page =
