@@ -9,10 +9,12 @@ ghost use Rattle.goo_types.specs.Piece.{IsForward};
 ghost use Rattle.goo_core_shelf.specs.Rows.{EndsFrom};
 ghost use Rattle.goo_core_shelf.specs.Sought.{is_sought};
 ghost use Rattle.goo_tables_rows.specs.Beside.{joined_columns, joined_in, pieces_beside};
-ghost use Rattle.goo_tables_rows.specs.Readable.{joined_readable};
+ghost use Rattle.goo_tables_rows.specs.Readable.{joined_readable, piece_readable};
+ghost use Rattle.goo_tables_rows.specs.Rows.{piece_columns};
 ghost use Rattle.goo_tables_rows.specs.Refused.{FailsOnlyByFault};
 ghost use Rattle.goo_tables_rows.specs.Stands.{Looks};
 ghost use Rattle.goo_core_shelf.specs.declared.sought.Sought.TheVariants.{Naming};
+ghost use Rattle.goo_store_pieces.specs.Ahead.{is_beyond as names_beyond};
 ghost use Rattle.goo_store_pieces.specs.NextRows.{begins_beyond, IsDated, reaching_beyond};
 
 use goo_core_shelf::sought::{Sought, is_sought};
@@ -20,7 +22,9 @@ use goo_store_pieces::pieces::is_beyond;
 use goo_store_plans::known_rows::Edges;
 use goo_store_values::statement_fault::StatementFault;
 use goo_tables_accounts::joined::{next_expiring, next_of_account, page_of_account};
+use goo_tables_pages::account_pieces::page_of_account as rows_of_account;
 use goo_tables_rows::joined::JoinedRow;
+use goo_tables_rows::piece::PieceRow;
 use goo_types::account_no::AccountNo;
 use goo_types::piece::Piece;
 use sqlite::{Alter, Connection, Error};
@@ -123,9 +127,26 @@ pub fn ask_next<S: Alter>(
     }
 }
 
+/// The first rows that name an account and begin above the end of one of its rows.
+pub fn ask_rows<S: Alter>(
+    alloc: Global,
+    conn: &mut Connection<S>,
+    account: AccountNo,
+    row: &Piece,
+) -> Result<Vec<PieceRow>, Error>
+    ensures looks { Looks (view S.Store conn.old) (view S.Store conn.new) result
+        (λ t found. found.items
+        ≡ take 256 (filter (names_beyond account row.now.last) t.pieces)) }
+    ensures readable { FailsOnlyByFault (view S.Store conn.old) (view S.Store conn.new) result
+        (λ t. All piece_readable (map piece_columns t.pieces)) }
+    ensures outside { conn.old.in_transaction ≡ false → conn.new.in_transaction ≡ false }
+{
+    rows_of_account(alloc, conn, account.get(), row.last.get())
+}
+
 /// The first rows that name an account and begin above the end of one of its rows, beside their
 /// lots.
-pub fn ask_page<S: Alter>(
+pub fn ask_pieces<S: Alter>(
     alloc: Global,
     conn: &mut Connection<S>,
     account: AccountNo,

@@ -1,6 +1,7 @@
 //! The rows of a registry's certificates, as they are found.
 
-ghost use Rattle.std.specs.Prelude.{◌≡◌, ◌+◌, ◌<◌, ◌^◌, ◌&&◌, IfOk, IfSome, Some, find, reverse};
+ghost use Rattle.std.specs.Prelude.{◌≡◌, ◌+◌, ◌<◌, ◌^◌, ◌&&◌, IfOk, IfSome, IsTrue, Some, find};
+ghost use Rattle.std.specs.Prelude.{reverse};
 ghost use Rattle.std.specs.Prelude.{nat_le, nat_lt};
 ghost use Rattle.std.specs.List.{filter};
 ghost use Rattle.goo_spec_runs.specs.NextRun.{ending_from, first_of, from_of};
@@ -9,14 +10,19 @@ ghost use Rattle.goo_core_shelf.specs.Shelf.{Looks};
 ghost use Rattle.goo_core_shelf.specs.Sought.{is_sought};
 ghost use Rattle.goo_spec_tables.specs.Places.{rows_of};
 ghost use Rattle.goo_store_judge.specs.Moments.{tables_in};
+ghost use Rattle.goo_store_pieces.specs.Ahead.{IsAhead};
 ghost use Rattle.goo_store_plans.specs.Found.{IsEdge};
 ghost use Rattle.goo_tables_rows.specs.Stands.{defects};
 ghost use Rattle.goo_store.specs.Seen.{Blames, database_of, seen_by};
 
-use crate::next_rows::{ask_next, ask_page, edges_after, ends_clear, is_clear, reaching_row};
+use crate::next_rows::{
+    ask_next, ask_pieces, ask_rows, edges_after, ends_clear, is_clear, reaching_row,
+};
 use crate::sql_shelf::SqlShelf;
 use goo_core_shelf::sought::Sought;
-use goo_store_pieces::ahead::read_page;
+use goo_store_pieces::ahead::{
+    Ahead, pieces_share_lots, read_pieces, read_rows, rows_share_lots, told_ahead,
+};
 use goo_store_pieces::pieces::{alone, read_beyond, read_maybe, read_rising};
 use goo_store_values::noting::note_fault;
 use goo_tables_accounts::joined::{piece_before, pieces_beginning};
@@ -116,8 +122,9 @@ impl<S: Alter> SqlShelf<S> {
         }
     }
 
-    /// A row of an account that was found, once the rows that follow it were read ahead and kept.
-    fn follow(&mut self, account: AccountNo, row: Piece) -> Result<Option<Piece>, Fault>
+    /// A row of an account that was found, once the rows that follow it were read ahead and kept,
+    /// without their lots.
+    fn follow_by_rows(&mut self, account: AccountNo, row: Piece) -> Result<Option<Piece>, Fault>
         requires { defects (database_of self.now) ≡ 0
             → IsEdge (Some row.last) (rows_of (tables_in (database_of self.now))) }
         ensures looks { Looks (seen_by self.old) (seen_by self.new) result
@@ -128,9 +135,29 @@ impl<S: Alter> SqlShelf<S> {
         if self.refused {
             return Err(Fault::Store);
         }
-        let found = ask_page(self.alloc, &mut self.conn, account, &row);
+        let found = ask_rows(self.alloc, &mut self.conn, account, &row);
         self.cache.answered = found.is_ok();
-        let shown = read_page(
+        self.shares_lots = rows_share_lots(&found);
+        let shown = read_rows(found, account, row, &mut self.cache.ahead);
+        note_fault(shown, &mut self.refused)
+    }
+
+    /// The same with their lots.
+    fn follow_by_pieces(&mut self, account: AccountNo, row: Piece) -> Result<Option<Piece>, Fault>
+        requires { defects (database_of self.now) ≡ 0
+            → IsEdge (Some row.last) (rows_of (tables_in (database_of self.now))) }
+        ensures looks { Looks (seen_by self.old) (seen_by self.new) result
+            (λ found. found ≡ Some row) }
+        ensures store { Blames self.old self.new result }
+        ensures row { IfOk result (λ found. found ≡ Some row) }
+    {
+        if self.refused {
+            return Err(Fault::Store);
+        }
+        let found = ask_pieces(self.alloc, &mut self.conn, account, &row);
+        self.cache.answered = found.is_ok();
+        self.shares_lots = pieces_share_lots(&found);
+        let shown = read_pieces(
             self.alloc,
             found,
             account,
@@ -139,6 +166,61 @@ impl<S: Alter> SqlShelf<S> {
             &mut self.cache.ahead,
         );
         note_fault(shown, &mut self.refused)
+    }
+
+    /// A row of an account that was found, once the rows that follow it were read ahead and kept.
+    /// Their lots are not read where most rows of the page before shared theirs: one that isn't
+    /// kept then takes a statement of its own.
+    fn follow(&mut self, account: AccountNo, row: Piece) -> Result<Option<Piece>, Fault>
+        requires { defects (database_of self.now) ≡ 0
+            → IsEdge (Some row.last) (rows_of (tables_in (database_of self.now))) }
+        ensures looks { Looks (seen_by self.old) (seen_by self.new) result
+            (λ found. found ≡ Some row) }
+        ensures store { Blames self.old self.new result }
+        ensures row { IfOk result (λ found. found ≡ Some row) }
+    {
+        if self.shares_lots {
+            self.follow_by_rows(account, row)
+        } else {
+            self.follow_by_pieces(account, row)
+        }
+    }
+
+    /// The next row of an account after a number at which one of its rows ends.
+    fn next_behind(&mut self, account: AccountNo, after: Number) -> Result<Option<Piece>, Fault>
+        requires { defects (database_of self.now) ≡ 0
+            → IsEdge (Some after) (rows_of (tables_in (database_of self.now))) }
+        ensures looks { Looks (seen_by self.old) (seen_by self.new) result
+            (λ found. found ≡ next_of account (Some after) (seen_by self.old).rows) }
+        ensures store { Blames self.old self.new result }
+        ensures ahead { IfOk result (λ found. IfSome found (EndsFrom (after + 1))) }
+    {
+        self.first_beyond(&Sought::Naming(account), after.get())
+    }
+
+    /// The next row of an account after a number, once it was read ahead: as it is kept, where its
+    /// lot is kept too, or else as the tables have it.
+    pub(crate) fn next_ahead(
+        &mut self,
+        account: AccountNo,
+        after: Number,
+        row: &Option<Ahead>,
+    ) -> Result<Option<Piece>, Fault>
+        requires answered { IsTrue self.now.cache.answered }
+        requires ahead { defects (database_of self.now) ≡ 0
+            → IsAhead (tables_in (database_of self.now)) account after row.now }
+        ensures looks { Looks (seen_by self.old) (seen_by self.new) result
+            (λ found. found ≡ next_of account (Some after) (seen_by self.old).rows) }
+        ensures store { Blames self.old self.new result }
+        ensures ahead { IfOk result (λ found. IfSome found (EndsFrom (after + 1))) }
+    {
+        if self.refused {
+            return Err(Fault::Store);
+        }
+        if let Some(found) = told_ahead(row, after.get(), &self.known_rows.lots.found) {
+            return Ok(found);
+        }
+        self.next_behind(account, after)
     }
 
     /// The first row that names an account and ends after a number, as the tables have it. The rows

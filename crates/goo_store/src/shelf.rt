@@ -364,18 +364,18 @@ impl<S: Alter> Shelf for SqlShelf<S> {
         note_fault(held::is_there(found), &mut self.refused)
     }
 
-    // In a walk the row was read ahead: one statement shows 256 rows.
+    // In a walk the row was read ahead: one statement shows 256 rows. Where they came without their
+    // lots, one that isn't kept takes a statement more.
     fn next_of(&mut self, account: AccountNo, after: Option<Number>) -> Result<Option<Piece>, Fault>
         ensures looks { Looks (seen_by self.old) (seen_by self.new) result
             (λ found. found ≡ next_row account after (seen_by self.old).rows) }
         ensures store { Blames self.old self.new result }
         ensures ahead { IfOk result (λ found. IfSome found (EndsFrom (from_of after))) }
     {
-        if self.refused {
-            return Err(Fault::Store);
-        }
-        if let Some(kept) = self.cache.row_ahead(account, &after) {
-            return Ok(kept);
+        if let Some(number) = after {
+            if let Some(row) = self.cache.row_ahead(account, number) {
+                return self.next_ahead(account, number, &row);
+            }
         }
         self.next_in_tables(account, after)
     }

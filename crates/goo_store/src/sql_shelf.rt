@@ -40,6 +40,8 @@ pub struct SqlShelf<S: Alter> {
     pub(crate) refused: bool,
     pub(crate) known_rows: KnownRows,
     pub(crate) cache: Cache,
+    // Whether most rows of the page that was read ahead last were of the lot of the row before.
+    pub(crate) shares_lots: bool,
     ghost outside: { conn.in_transaction ≡ false },
     ghost well: { IsWell (view S.Store conn) } by { IsWell-prop (view S.Store conn) },
     ghost known: { Knows (view S.Store conn) known_rows } by { Knows-prop (view S.Store conn) known_rows },
@@ -54,6 +56,7 @@ impl<S: Alter + Drop> Drop for SqlShelf<S> {
             refused: _,
             known_rows: _known_rows,
             cache: _cache,
+            shares_lots: _,
         } = self;
     }
 }
@@ -75,6 +78,7 @@ impl<S: Alter> SqlShelf<S> {
             refused: false,
             known_rows: KnownRows::none(alloc),
             cache: Cache::none(alloc),
+            shares_lots: false,
         }
     }
 
@@ -158,6 +162,7 @@ impl<S: Alter> SqlShelf<S> {
             refused: _,
             known_rows: _known_rows,
             cache: _cache,
+            shares_lots: _,
         } = self;
         conn
     }

@@ -19,7 +19,6 @@ use Rattle.goo_store_judge.specs.Moments.{tables_in, count, moment, IsWell}
 use Rattle.goo_store_judge.specs.StoreFaults.{BlamesStore}
 use Rattle.goo_store_judge.proofs.Looking.{before, so_still}
 use Rattle.goo_core_shelf.proofs.Looking.{stays_still}
-use Rattle.goo_spec_tables.specs.Places.{rows_of}
 use Rattle.goo_store_pieces.specs.Ahead.{AreAhead}
 use Rattle.goo_store_pieces.specs.Caching.{AreAccountsOf, AreLeft, IsCacheOf, HoldsCache}
 use Rattle.goo_store_pieces.specs.declared.cache.Cache.{Cache}
@@ -56,7 +55,7 @@ pub lasts_with_account : (old new : State) (a b : Bool) (number : ℕ) (r : Resu
 lasts_with_account old new a b number r looks first last answered same keeps cached = record {
   so = λ none. record {
     accounts = keeps (state_of (tables_in new)) (subst (λ (s : registry.State). IfOk r (λ found. found ≡ get s.accounts number)) (sym (looks.same none)) (looks.found none)) (cached.so none).accounts;
-    ahead = subst (λ xs. AreAhead (rows_of (tables_in new)) xs.items) (sym same) (cached.so none).ahead;
+    ahead = subst (λ xs. AreAhead (tables_in new) xs.items) (sym same) (cached.so none).ahead;
   };
   is_open = λ is. cached.is_open (sym answered ∙ is);
 }

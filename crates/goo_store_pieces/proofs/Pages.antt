@@ -1,44 +1,50 @@
 -- A page of an account's rows gives the row after each of them.
-use Rattle.std.proofs.Common.{◌≡◌, ◌≤◌, ◌<◌, ◌+◌, ◌&&◌, ◌||◌, ◌==◌, nat_lt, ℕ, zero, suc, Bool, true, false, cond, All, IfOk, List, [], ◌∷◌, map, take, find, Some, None, Ok, Err, Result, refl, sym, ap, subst, ◌∙◌, arith}
-use Rattle.std.specs.List.{filter, list_any}
+use Rattle.std.proofs.Common.{◌≡◌, ◌≤◌, ◌<◌, ◌+◌, ◌&&◌, ◌||◌, ◌==◌, nat_lt, ℕ, zero, suc, pos, Bool, true, false, cond, All, IfOk, List, [], ◌∷◌, map, take, find, Option, Some, None, Ok, Err, Result, option_map, refl, sym, ap, subst, ◌∙◌, arith}
+use Rattle.std.specs.Global.{Vec}
+use Rattle.std.specs.List.{filter, list_all, list_any}
 use Rattle.std.specs.Prelude.{is_ok}
 use Rattle.std.proofs.lemmas.List.{take-map}
 use Rattle.std.proofs.lemmas.List.Elements.{All-filter, All-take}
-use Rattle.sqlite.specs.Effect.{Database}
 use Rattle.sqlite.specs.State.{State}
 use Rattle.sqlite.specs.declared.error.Error.{Error}
+use Rattle.sqlite_keyed.specs.Keyed.{get_by, has_key}
 use Rattle.std.proofs.lemmas.Bool.{le-ltb, lt-ltb, ltb-true, eq-eqb}
-use Rattle.sqlite_keyed.proofs.RuleLemmas.{second_of_both}
+use Rattle.sqlite_keyed.proofs.ListLemmas.{map-map}
+use Rattle.sqlite_keyed.proofs.RuleLemmas.{first_of_both, second_of_both}
 use Rattle.goo_types.specs.Piece.{IsRising, IsRisingFrom}
 use Rattle.goo_types.specs.declared.piece.Piece.{Piece}
 use Rattle.goo_spec_runs.specs.NextRun.{first_of}
 use Rattle.goo_core_shelf.specs.Rows.{next_row}
 use Rattle.goo_core_shelf.specs.Sought.{is_sought}
 use Rattle.goo_core_shelf.specs.declared.sought.Sought.TheVariants.{Naming}
-use Rattle.goo_tables_rows.specs.Beside.{joined_in, pieces_beside}
-use Rattle.goo_tables_rows.specs.Rows.{Tables, Lot}
+use Rattle.goo_tables_rows.specs.Beside.{beside, joined_in, pieces_beside}
+use Rattle.goo_tables_rows.specs.Rows.{Tables, Lot, lot_key}
 use Rattle.goo_tables_rows.specs.Stands.{Looks, Stands, defects}
 use Rattle.goo_tables_rows.specs.declared.joined.JoinedRow.{JoinedRow}
 use Rattle.goo_tables_rows.specs.declared.piece.PieceRow.{PieceRow}
-use Rattle.goo_spec_tables.specs.Kept.{AreKept}
 use Rattle.goo_spec_tables.specs.Places.{piece_of, rows_of}
 use Rattle.goo_spec_tables.specs.States.{state_of}
 use Rattle.goo_spec_tables.proofs.Known.{number_is}
+use Rattle.goo_spec_tables.proofs.Renewing.{the_lot, rows_found}
 use Rattle.goo_spec_tables.proofs.RowsFound.{filtered, place_account}
+use Rattle.goo_spec_tables.specs.Kept.{AreKept}
+use Rattle.sqlite.specs.Effect.{Database}
 use Rattle.goo_store_judge.specs.Holding.{sure}
 use Rattle.goo_store_judge.specs.Moments.{tables_in, IsWell}
 use Rattle.goo_store_judge.proofs.Looking.{before, so_still}
 use Rattle.goo_store_plans.specs.Found.{IsEdge}
-use Rattle.goo_store_pieces.specs.Ahead.{AreAhead, IsPageOf, KeepsAhead, beyond}
-use Rattle.goo_store_pieces.specs.NextRows.{begins_beyond}
-use Rattle.goo_store_pieces.specs.Caching.{AreAccountsOf, HoldsCache}
-use Rattle.goo_store_pieces.specs.Reading.{IsReadablePiece, AreReadablePieces}
+use Rattle.goo_store_pieces.specs.Ahead.{beside_in, told_in, AreAhead, IsAhead, IsPageOf, IsWholePageOf, KeepsAhead, KeepsWhole, beyond, is_beyond}
 use Rattle.goo_store_pieces.specs.Found.{IsBeside}
+use Rattle.goo_store_pieces.specs.NextRows.{begins_beyond}
+use Rattle.goo_store_pieces.specs.Reading.{IsReadablePiece, AreReadablePieces}
+use Rattle.goo_store_pieces.specs.declared.ahead.Ahead.{Ahead}
+use Rattle.goo_store_pieces.specs.declared.ahead.Ahead.TheVariants.{Row, Whole}
+use Rattle.goo_store_pieces.proofs.Found.{pieces_beside_lots}
+use Rattle.goo_store_pieces.proofs.RowsRead.{pieces_kept, rising_left, unmapped}
+use Rattle.goo_store_pieces.specs.Caching.{AreAccountsOf, HoldsCache}
 use Rattle.goo_store_pieces.specs.declared.cache.Cache.{Cache}
 use Rattle.goo_store_pieces.proofs.Edges.{next_behind}
-use Rattle.goo_store_pieces.proofs.Found.{pieces_beside_lots}
 use Rattle.goo_store_pieces.proofs.Caching.{opened, so_on}
-use Rattle.goo_store_pieces.proofs.RowsRead.{pieces_kept, rising_left, unmapped}
 
 -- ---- the first of what a test leaves
 
@@ -119,52 +125,122 @@ module _ (wants : Piece → Bool) where
 
 -- ---- along a page
 
--- what is left of a page has the account's next rows after a number at which a row ends
-pub record IsLeftOf (account after n : ℕ) (rows left : List Piece) : Type 0 where
-  pub rising : IsRising rows
-  pub edge : list_any (λ p. p.last == after) rows ≡ true
-  pub shown : left ≡ take n (filter (beyond account after) rows)
+-- what is left of a page tells the account's next rows after a number at which a row ends
+pub record IsLeftOf (t : Tables) (account after n : ℕ) (left : List Ahead) : Type 0 where
+  pub rising : IsRising (rows_of t)
+  pub edge : list_any (λ p. p.last == after) (rows_of t) ≡ true
+  pub shown : map (told_in t.lots) left ≡ map Some (take n (filter (beyond account after) (rows_of t)))
 
-pub page_left : (account after : ℕ) (rows page : List Piece) → IsPageOf account after rows page → IsLeftOf account after 256 rows page
-page_left account after rows page it = record { rising = it.rising; edge = it.edge; shown = it.shown }
+-- where a row ends, as it is kept
+abbrev pub end_of : Ahead → ℕ
+end_of (Row p) = p.last
+end_of (Whole p) = p.last
 
 next_first : (account after : ℕ) (rows : List Piece) → IsRising rows → list_any (λ p. p.last == after) rows ≡ true → next_row account (Some after) rows ≡ first_of (filter (beyond account after) rows)
 next_first account after rows rising edge = next_behind (is_sought (Naming account)) (Some after) after refl rows rising edge ∙ find_first (beyond account after) rows
 
+-- the piece ends where its row ends
+same_end : (lots : List Lot) (row : Ahead) (p : Piece) → told_in lots row ≡ Some p → p.last ≡ end_of row
+same_end lots (Row q) p is = go (get_by lot_key lots (pos q.lot)) is
+  where
+    go : (o : Option Lot) → option_map (λ l. piece_of (q, l)) o ≡ Some p → p.last ≡ q.last
+    go None is = absurd cc
+    go (Some l) is = let same : piece_of (q, l) ≡ p = cc in sym (ap (λ (x : Piece). x.last) same)
+same_end lots (Whole q) p is = let same : q ≡ p = cc in sym (ap (λ (x : Piece). x.last) same)
+
 -- the first row that is left comes next, and the others are left after it
-pub record Goes (account after n : ℕ) (rows : List Piece) (x : Piece) (left : List Piece) : Type 0 where
-  pub next : Some x ≡ next_row account (Some after) rows
+pub record Goes (t : Tables) (account after n : ℕ) (row : Ahead) (left : List Ahead) : Type 0 where
+  pub next : IsAhead t account after (Some row)
   pub fewer : ℕ
   pub counts : n ≡ fewer + 1
-  pub others : IsLeftOf account x.last fewer rows left
+  pub others : IsLeftOf t account (end_of row) fewer left
 
-pub goes : (account after n : ℕ) (rows : List Piece) (x : Piece) (left : List Piece) → IsLeftOf account after n rows (x ∷ left) → Goes account after n rows x left
-goes account after n rows x left it = go n (filter (beyond account after) rows) refl it.shown
+pub goes : (t : Tables) (account after n : ℕ) (row : Ahead) (left : List Ahead) → IsLeftOf t account after n (row ∷ left) → Goes t account after n row left
+goes t account after n row left it = go n (filter (beyond account after) (rows_of t)) refl it.shown
   where
-    go : (m : ℕ) (all : List Piece) → filter (beyond account after) rows ≡ all → x ∷ left ≡ take m all → Goes account after m rows x left
+    go : (m : ℕ) (all : List Piece) → filter (beyond account after) (rows_of t) ≡ all → told_in t.lots row ∷ map (told_in t.lots) left ≡ map Some (take m all) → Goes t account after m row left
     go zero all is page = absurd cc
     go (suc m) [] is page = absurd cc
     go (suc m) (y ∷ ys) is page =
-        let first : y ≡ x = cc in
-        let rest : left ≡ take m ys = cc in
-        let head : filter (beyond account after) rows ≡ x ∷ ys = is ∙ ap (λ z. z ∷ ys) first in
-        let it_follows = follows (is_sought (Naming account)) after 0 rows it.rising x ys head in record {
-          next = sym (next_first account after rows it.rising it.edge ∙ ap first_of head);
+        let first : told_in t.lots row ≡ Some y = cc in
+        let rest : map (told_in t.lots) left ≡ map Some (take m ys) = cc in
+        let at : y.last ≡ end_of row = same_end t.lots row y first in
+        let it_follows = follows (is_sought (Naming account)) after 0 (rows_of t) it.rising y ys is in record {
+          next = record { edge = it.edge; next = next_first account after (rows_of t) it.rising it.edge ∙ ap first_of is ∙ sym first };
           fewer = m;
           counts = omega arith;
-          others = record { rising = it.rising; edge = it_follows.edge; shown = rest ∙ ap (take m) it_follows.later_ones };
+          others = subst (λ e. IsLeftOf t account e m left) at (record { rising = it.rising; edge = it_follows.edge; shown = rest ∙ ap (λ ps. map Some (take m ps)) it_follows.later_ones });
         }
 
 -- where a page could have had more rows, none comes next
-pub ends : (account after n : ℕ) (rows : List Piece) → 0 < n → IsLeftOf account after n rows [] → None ≡ next_row account (Some after) rows
-ends account after n rows more it = go n (filter (beyond account after) rows) refl more it.shown
+pub ends : (t : Tables) (account after n : ℕ) → 0 < n → IsLeftOf t account after n [] → IsAhead t account after None
+ends t account after n more it = record { edge = it.edge; next = go n (filter (beyond account after) (rows_of t)) refl more it.shown }
   where
-    go : (m : ℕ) (all : List Piece) → filter (beyond account after) rows ≡ all → 0 < m → [] ≡ take m all → None ≡ next_row account (Some after) rows
+    go : (m : ℕ) (all : List Piece) → filter (beyond account after) (rows_of t) ≡ all → 0 < m → [] ≡ map Some (take m all) → next_row account (Some after) (rows_of t) ≡ None
     go zero all is none page = absurd (omega (arith, none))
-    go (suc m) [] is some page = sym (next_first account after rows it.rising it.edge ∙ ap first_of is)
+    go (suc m) [] is some page = next_first account after (rows_of t) it.rising it.edge ∙ ap first_of is
     go (suc m) (y ∷ ys) is some page = absurd cc
 
 -- ---- the page that the statement shows
+
+module _ (lots : List Lot) (account after : ℕ) where
+  asked_beyond : (p : PieceRow) (l : Lot) → is_beyond account after p ≡ beyond account after (piece_of (p, l))
+  asked_beyond p l = λ i. (number_is p.account account ∙ sym (ap (λ n. n == account) (place_account p.kind p.account p.act))) i && nat_lt after p.first
+
+  -- the rows that are asked for, each beside its lot, as all of them have theirs
+  all_beside : (ps : List PieceRow) → list_all (λ p. has_key lot_key lots (pos p.lot)) ps ≡ true → map (beside_in lots) (filter (is_beyond account after) ps) ≡ map Some (filter (beyond account after) (map piece_of (beside lots ps)))
+  all_beside [] there = refl
+  all_beside (p ∷ ps) there =
+      let lot = the_lot lots p (first_of_both (has_key lot_key lots (pos p.lot)) (list_all (λ q. has_key lot_key lots (pos q.lot)) ps) there) in
+      go lot.0 lot.1 (is_beyond account after p) (beyond account after (piece_of (p, lot.0))) (asked_beyond p lot.0) (all_beside ps (second_of_both (has_key lot_key lots (pos p.lot)) (list_all (λ q. has_key lot_key lots (pos q.lot)) ps) there))
+      ∙ sym (ap (λ qs. map Some (filter (beyond account after) qs)) (rows_found lots p lot.0 lot.1 ps))
+    where
+      rest : List Piece
+      rest = map piece_of (beside lots ps)
+
+      go : (l : Lot) → get_by lot_key lots (pos p.lot) ≡ Some l → (a b : Bool) → a ≡ b → map (beside_in lots) (filter (is_beyond account after) ps) ≡ map Some (filter (beyond account after) rest)
+          → map (beside_in lots) (cond a (p ∷ filter (is_beyond account after) ps) (filter (is_beyond account after) ps)) ≡ map Some (cond b (piece_of (p, l) ∷ filter (beyond account after) rest) (filter (beyond account after) rest))
+      go l is true true same others = λ i. option_map (λ m. piece_of (p, m)) (is i) ∷ others i
+      go l is true false same others = absurd cc
+      go l is false true same others = absurd cc
+      go l is false false same others = others
+
+pub page_left : (t : Tables) (account after : ℕ) (page : List PieceRow) → IsPageOf t account after page → IsLeftOf t account after 256 (map Row page)
+unfolding rows_of
+page_left t account after page it = record {
+  rising = it.kept.rising;
+  edge = it.edge;
+  shown =
+      map-map (told_in t.lots) Row page
+      ∙ ap (map (beside_in t.lots)) it.shown ∙ sym (take-map (beside_in t.lots) 256 (filter (is_beyond account after) t.pieces))
+      ∙ ap (take 256) (all_beside t.lots account after t.pieces it.kept.lots_there)
+      ∙ take-map Some 256 (filter (beyond account after) (rows_of t));
+}
+
+pub whole_left : (t : Tables) (account after : ℕ) (page : List Piece) → IsWholePageOf t account after page → IsLeftOf t account after 256 (map Whole page)
+whole_left t account after page it = record { rising = it.rising; edge = it.edge; shown = map-map (told_in t.lots) Whole page ∙ ap (map Some) it.shown }
+
+module _ (account after : ℕ) where
+  -- what is kept after a page was read is so
+  pub lasts_with_page : (old new : State) (it : IsWell old) (r : Result (Vec PieceRow) Error) → (looks : Looks old new r (λ t found. found.items ≡ take 256 (filter (is_beyond account after) t.pieces)))
+      → (defects old ≡ 0 → IsEdge (Some after) (rows_of (tables_in old))) → (first last : Cache) → last.answered ≡ is_ok r → last.accounts ≡ first.accounts
+      → KeepsAhead r account after first.ahead.items last.ahead.items → HoldsCache old first → HoldsCache new last
+  lasts_with_page old new it r looks edge first last answered accounts keeps cached = record {
+    so = λ none.
+        let early = before old new it r _ looks none in
+        let still = so_on old new it r _ looks first cached none in record {
+          accounts = subst (λ xs. AreAccountsOf (state_of (tables_in new)) xs.items) (sym accounts) still.accounts;
+          ahead = so_still old new it r _ looks (λ t. AreAhead t last.ahead.items) none (go early r (looks.found (sure new none).0 (tables_in old) (it.stands early)) keeps);
+        };
+    is_open = opened new r last.answered answered looks.works;
+  }
+    where
+      go : defects old ≡ 0 → (q : Result (Vec PieceRow) Error) → IfOk q (λ found. found.items ≡ take 256 (filter (is_beyond account after) (tables_in old).pieces)) → KeepsAhead q account after first.ahead.items last.ahead.items
+          → AreAhead (tables_in old) last.ahead.items
+      go early (Ok x) found keep = keep (tables_in old) (cached.so early).ahead (record { kept = it.kept early; edge = edge early; shown = found })
+      go early (Err e) found keep = subst (AreAhead (tables_in old)) (sym keep) (cached.so early).ahead
+
+-- ---- a page of rows beside their lots
 
 -- as the statement tests it
 abbrev asked : ℕ → ℕ → PieceRow × Lot → Bool
@@ -199,20 +275,20 @@ module _ (account after : ℕ) where
       unmapped (IsBeside t.lots) joined_in rows (subst (All (IsBeside t.lots)) (sym is) (All-take (IsBeside t.lots) 256 all (All-filter (asked account after) (IsBeside t.lots) (pieces_beside t) (pieces_beside_lots t))))
 
   -- what is kept after a page was read is so
-  pub lasts_with_page : (old new : State) (it : IsWell old) {V : Type 0} (rows : V → List JoinedRow) (r : Result V Error) → (looks : Looks old new r (λ t found. map joined_in (rows found) ≡ take 256 (filter (asked account after) (pieces_beside t))))
+  pub lasts_with_pieces : (old new : State) (it : IsWell old) (r : Result (Vec JoinedRow) Error) → (looks : Looks old new r (λ t found. map joined_in found.items ≡ take 256 (filter (asked account after) (pieces_beside t))))
       → (defects old ≡ 0 → IsEdge (Some after) (rows_of (tables_in old))) → (first last : Cache) → last.answered ≡ is_ok r → last.accounts ≡ first.accounts
-      → KeepsAhead r rows account after first.ahead.items last.ahead.items → HoldsCache old first → HoldsCache new last
-  lasts_with_page old new it {V} rows r looks edge first last answered accounts keeps cached = record {
+      → KeepsWhole r account after first.ahead.items last.ahead.items → HoldsCache old first → HoldsCache new last
+  lasts_with_pieces old new it r looks edge first last answered accounts keeps cached = record {
     so = λ none.
         let early = before old new it r _ looks none in
         let still = so_on old new it r _ looks first cached none in record {
           accounts = subst (λ xs. AreAccountsOf (state_of (tables_in new)) xs.items) (sym accounts) still.accounts;
-          ahead = so_still old new it r _ looks (λ t. AreAhead (rows_of t) last.ahead.items) none (go early r (looks.found (sure new none).0 (tables_in old) (it.stands early)) keeps);
+          ahead = so_still old new it r _ looks (λ t. AreAhead t last.ahead.items) none (go early r (looks.found (sure new none).0 (tables_in old) (it.stands early)) keeps);
         };
     is_open = opened new r last.answered answered looks.works;
   }
     where
-      go : defects old ≡ 0 → (q : Result V Error) → IfOk q (λ found. map joined_in (rows found) ≡ take 256 (filter (asked account after) (pieces_beside (tables_in old)))) → KeepsAhead q rows account after first.ahead.items last.ahead.items
-          → AreAhead (rows_of (tables_in old)) last.ahead.items
-      go early (Ok x) found keep = keep (rows_of (tables_in old)) (cached.so early).ahead (record { rising = (it.kept early).rising; edge = edge early; shown = page_shown (tables_in old) (rows x) found })
-      go early (Err e) found keep = subst (AreAhead (rows_of (tables_in old))) (sym keep) (cached.so early).ahead
+      go : defects old ≡ 0 → (q : Result (Vec JoinedRow) Error) → IfOk q (λ found. map joined_in found.items ≡ take 256 (filter (asked account after) (pieces_beside (tables_in old)))) → KeepsWhole q account after first.ahead.items last.ahead.items
+          → AreAhead (tables_in old) last.ahead.items
+      go early (Ok x) found keep = keep (tables_in old) (cached.so early).ahead (record { rising = (it.kept early).rising; edge = edge early; shown = page_shown (tables_in old) x.items found })
+      go early (Err e) found keep = subst (AreAhead (tables_in old)) (sym keep) (cached.so early).ahead

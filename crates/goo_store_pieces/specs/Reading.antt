@@ -3,12 +3,14 @@ use Rattle.std.specs.Prelude.{◌≡◌, ◌≤◌, ℕ, pos, true, IsTrue, List
 use Rattle.std.specs.List.{list_all}
 use Rattle.sqlite_typed.specs.Tests.{bytes_eq}
 use Rattle.goo_types.specs.Piece.{IsRising}
+use Rattle.goo_types.specs.declared.lot_fields.LotFields.{LotFields}
+use Rattle.goo_types.specs.declared.piece.Piece.{Piece}
 use Rattle.goo_tables_rows.specs.Beside.{joined_in}
 use Rattle.goo_tables_rows.specs.Rows.{Lot, NoticeOut, device_in}
 use Rattle.goo_tables_rows.specs.declared.device.DeviceRow.{DeviceRow}
 use Rattle.goo_tables_rows.specs.declared.joined.JoinedRow.{JoinedRow}
 use Rattle.goo_tables_rows.specs.declared.piece.PieceRow.{PieceRow}
-use Rattle.goo_spec_tables.specs.Places.{piece_of}
+use Rattle.goo_spec_tables.specs.Places.{piece_of, place_of}
 use Rattle.goo_spec_tables.specs.Readable.{is_device, is_piece, is_notice_out}
 use Rattle.goo_store_values.specs.Reading.{IsReadableLot}
 
@@ -20,6 +22,10 @@ pub record AreReadableDevices (rows : List DeviceRow) : Type 0 where
 -- a notice that a registry sent, by its code
 abbrev pub IsReadableSent : NoticeOut → Type 0
 IsReadableSent n = (own : ℕ) × IsTrue (is_notice_out own n)
+
+-- the piece that a row states beside this lot
+abbrev pub with_lot : PieceRow → LotFields → Piece
+with_lot p lot = record { first = p.first; last = p.last; lot = lot; place = place_of p.kind p.account p.act }
 
 -- a piece beside its lot
 pub record IsReadablePiece (a : PieceRow × Lot) : Type 0 where

@@ -2,23 +2,20 @@
 
 ghost use Rattle.std.specs.Prelude.{◌≡◌, false, is_ok, IfOk, IfSome, IsTrue, OnErr, OnOk, Some};
 ghost use Rattle.std.specs.FinMap.{get};
-ghost use Rattle.goo_core_shelf.specs.Rows.{EndsFrom, next_row};
 ghost use Rattle.goo_spec.specs.State.{State};
-ghost use Rattle.goo_spec_tables.specs.Places.{rows_of};
-ghost use Rattle.goo_spec_runs.specs.NextRun.{from_of};
 ghost use Rattle.goo_spec_tables.specs.States.{state_of};
 ghost use Rattle.goo_tables_rows.specs.Rows.{Tables};
 ghost use Rattle.goo_store_changes.specs.Changes.{made, made_all};
+ghost use Rattle.goo_store_pieces.specs.Ahead.{IsAhead};
 ghost use Rattle.goo_store_pieces.specs.Caching.{AreAccountsOf, AreLeft, IsCacheOf};
 
-use crate::ahead::{RowAhead, ahead_among};
+use crate::ahead::{Ahead, RowAhead, ahead_among};
 use crate::room::make_room;
 use goo_core_shelf::account::Account;
 use goo_store_changes::table_change::TableChange;
 use goo_types::account_no::AccountNo;
 use goo_types::fault::Fault;
 use goo_types::number::Number;
-use goo_types::piece::Piece;
 use sqlite::Error;
 use std::alloc::Global;
 
@@ -131,16 +128,11 @@ impl Cache {
     }
 
     /// The next row of an account after a number, where it was read ahead and may be told.
-    pub fn row_ahead(&self, account: AccountNo, after: &Option<Number>) -> Option<Option<Piece>>
+    pub fn row_ahead(&self, account: AccountNo, after: Number) -> Option<Option<Ahead>>
         ensures answered { IfSome result (λ row. IsTrue self.now.answered) }
         ensures kept { IfSome result
-            (λ row. (t : Tables) → IsCacheOf self.now t
-            → row ≡ next_row account after.now (rows_of t)) }
-        ensures ahead { IfSome result (λ row. IfSome row (EndsFrom (from_of after.now))) }
+            (λ row. (t : Tables) → IsCacheOf self.now t → IsAhead t account after row) }
     {
-        let Some(after) = after else {
-            return None;
-        };
         if self.answered {
             ahead_among(&self.ahead, account, after.get())
         } else {

@@ -1,7 +1,6 @@
 //! The lots of rows that were found, which are kept beside their numbers, and those that were not.
 
-ghost use Rattle.std.specs.Prelude.{◌≡◌, ◌==◌, List, None, Ok, IsOkUnless};
-ghost use Rattle.std.specs.List.{list_any};
+ghost use Rattle.std.specs.Prelude.{◌≡◌, List, None, Ok, IfSome, IsOkUnless};
 ghost use Rattle.goo_tables_rows.specs.Rows.{Lot as RowOfLot};
 ghost use Rattle.goo_store_plans.specs.Found.{AreMissing, AreStated, IsMissing, IsStated};
 ghost use Rattle.goo_store_values.specs.declared.statement_fault.StatementFault.TheVariants.{Memory};
@@ -15,11 +14,17 @@ use goo_types::lot::Lot;
 /// How many lots of either kind are kept at most, so that a search of them takes little.
 const MOST_LOTS: usize = 16;
 
-/// Whether a lot is kept under this number.
-fn is_kept(lots: &[NumberedLot], number: u64) -> bool
-    ensures { result ≡ list_any (λ lot. lot.number == number) lots.now }
+/// The lot that is kept under this number, if one is.
+pub fn lot_among(lots: &[NumberedLot], number: u64) -> Option<Lot>
+    ensures { IfSome result
+        (λ lot. (known : List RowOfLot) → AreStated known lots.now → IsStated known number lot) }
 {
-    lots.iter().any(|lot| lot.number == number)
+    for kept in lots {
+        if kept.number == number {
+            return Some(kept.lot);
+        }
+    }
+    None
 }
 
 /// Keeps the lot that the row under this number states, unless one is kept under it.
@@ -28,7 +33,7 @@ pub fn keep_lot(lots: &mut Vec<NumberedLot>, number: u64, lot: &Lot) -> Result<(
         → IsStated known number lot.now → AreStated known lots.new.items }
     ensures memory { IsOkUnless result Memory }
 {
-    if is_kept(lots, number) {
+    if lot_among(lots, number).is_some() {
         return Ok(());
     }
     make_room(lots, MOST_LOTS);

@@ -7,10 +7,10 @@ ghost use Rattle.goo_types.specs.Piece.{IsRising};
 ghost use Rattle.goo_core_shelf.specs.Rows.{EndsFrom};
 ghost use Rattle.goo_tables_rows.specs.Beside.{joined_in};
 ghost use Rattle.goo_spec_tables.specs.Places.{place_of, piece_of};
-ghost use Rattle.goo_spec_tables.specs.Readable.{is_act, names_act};
+ghost use Rattle.goo_spec_tables.specs.Readable.{is_act, is_piece, names_act};
 ghost use Rattle.goo_store_pieces.specs.Found.{KeepsLots, KeepsRead};
 ghost use Rattle.goo_store_pieces.specs.Near.{reaching};
-ghost use Rattle.goo_store_pieces.specs.Reading.{IsReadablePiece, AreReadablePieces};
+ghost use Rattle.goo_store_pieces.specs.Reading.{with_lot, IsReadablePiece, AreReadablePieces};
 ghost use Rattle.goo_store_values.specs.Passing.{Accepts, Passes};
 ghost use Rattle.goo_store_values.specs.declared.statement_fault.StatementFault.TheVariants.{Memory};
 
@@ -20,7 +20,9 @@ use goo_store_values::lots::read_lot;
 use goo_store_values::numbers;
 use goo_store_values::statement_fault::StatementFault;
 use goo_tables_rows::joined::JoinedRow;
+use goo_tables_rows::piece::PieceRow;
 use goo_types::fault::Fault;
+use goo_types::lot::Lot;
 use goo_types::piece::Piece;
 use goo_types::place::Place;
 use goo_types::range::Range;
@@ -43,17 +45,25 @@ fn read_place(kind: u32, account: u32, act: u32) -> Result<Place, StatementFault
     }
 }
 
+/// The piece that a row states beside its lot, which was read.
+pub(crate) fn read_row(row: &PieceRow, lot: &Lot) -> Result<Piece, StatementFault>
+    ensures value { IfOk result (λ piece. piece ≡ with_lot row.now lot.now) }
+    ensures accepts { IsTrue (is_piece row.now) → IsOk result }
+{
+    Ok(Piece {
+        first: numbers::number(row.first)?,
+        last: numbers::number(row.last)?,
+        lot: *lot,
+        place: read_place(row.kind, row.account, row.act)?,
+    })
+}
+
 /// The piece that a row states beside its lot.
 fn read_piece(row: &JoinedRow) -> Result<Piece, StatementFault>
     ensures value { IfOk result (λ piece. piece ≡ piece_of (joined_in row.now)) }
     ensures accepts { IsReadablePiece (joined_in row.now) → IsOk result }
 {
-    Ok(Piece {
-        first: numbers::number(row.piece.first)?,
-        last: numbers::number(row.piece.last)?,
-        lot: read_lot(&row.lot)?,
-        place: read_place(row.piece.kind, row.piece.account, row.piece.act)?,
-    })
+    read_row(&row.piece, &read_lot(&row.lot)?)
 }
 
 /// The piece that a row states beside its lot, which is kept.

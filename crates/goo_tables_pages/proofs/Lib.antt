@@ -1,2 +1,3 @@
+pub mod AccountQueries
 pub mod PieceQueries
 pub mod NetQueries

@@ -1,20 +1,20 @@
-use Rattle.sqlite.specs.Held.{state as view}
-use Rattle.goo_store_judge.specs.Moments.{tables_in}
-use Rattle.goo_store_judge.proofs.Looking.{refused_look}
-use Rattle.goo_store_judge.proofs.Blaming.{refused_blames}
-use Rattle.goo_store_pieces.proofs.Caching.{kept_blames, kept_look}
+use Rattle.std.proofs.Common.{◌≡◌, ◌∙◌, sym, subst}
+use Rattle.goo_core_shelf.specs.Rows.{next_row}
+use Rattle.goo_core_shelf.specs.Shelf.{Looks}
+use Rattle.goo_store.specs.Seen.{seen_by}
 use Rattle.goo_store.proofs.shelf.SqlShelfShelf.next_of.Goals as goal
+use Rattle.goo_store.proofs.shelf.SqlShelfShelf.next_of.Goals.{in-Some+in_default-row_ahead, in_default}
 
-pub returns-then-self-clause-looks : goal.returns-then-self-clause-looks
-returns-then-self-clause-looks g c = refused_look (view g.S.Store c.args.self.now.conn) c.args.self.now.well c.args.self.now.refused c.if-self.true (λ live db may. g.met.S.Store.settled c.args.self.now.conn.store db live may) _
+pub returns-in-Some-row_ahead-clause-looks : goal.returns-in-Some-row_ahead-clause-looks
+returns-in-Some-row_ahead-clause-looks g c =
+    subst (λ after. Looks (seen_by c.args.self.now) (seen_by c.next_ahead.new.self) c.next_ahead.result (λ found. found ≡ next_row c.args.account after (seen_by c.args.self.now).rows)) (sym c.in-Some.is) c.next_ahead.ensures.looks
 
-pub returns-then-self-clause-store : goal.returns-then-self-clause-store
-returns-then-self-clause-store g c = refused_blames (view g.S.Store c.args.self.now.conn) c.args.self.now.refused _ c.if-self.true
-
-pub returns-in-Some-clause-looks : goal.returns-in-Some-clause-looks
-returns-in-Some-clause-looks g c =
-    kept_look (view g.S.Store c.args.self.now.conn) c.args.self.now.well c.args.self.now.refused c.if-self.false (λ live db may. g.met.S.Store.settled c.args.self.now.conn.store db live may) _ c.in-Some.kept
-    (c.args.self.now.cached.is_open c.in-Some.ensures.answered) (λ none. c.in-Some.ensures.kept (tables_in (view g.S.Store c.args.self.now.conn)) (c.args.self.now.cached.so none))
-
-pub returns-in-Some-clause-store : goal.returns-in-Some-clause-store
-returns-in-Some-clause-store g c = kept_blames (view g.S.Store c.args.self.now.conn) c.args.self.now.refused c.in-Some.kept
+pub returns-clause-looks : goal.returns-clause-looks
+returns-clause-looks g c =
+    let same : c.match-after.after ≡ c.args.after =
+    elim c.match-after.branch [
+      | in-Some+in_default-row_ahead w ↦ w.after-is ∙ sym w.in-Some.is
+      | in_default w ↦ w.after-is
+    ]
+    in
+    subst (λ after. Looks (seen_by c.args.self.now) (seen_by c.next_in_tables.new.self) c.next_in_tables.result (λ found. found ≡ next_row c.args.account after (seen_by c.args.self.now).rows)) same c.next_in_tables.ensures.looks

@@ -5,7 +5,7 @@ use Rattle.goo_core_shelf.specs.declared.sought.Sought.TheVariants.{Naming}
 use Rattle.goo_tables_rows.specs.Beside.{joined_in, pieces_beside}
 use Rattle.goo_tables_rows.specs.Stands.{Looks}
 use Rattle.goo_store_pieces.specs.NextRows.{begins_beyond}
-use Rattle.goo_store.proofs.next_rows.ask_page.Goals as goal
+use Rattle.goo_store.proofs.next_rows.ask_pieces.Goals as goal
 
 pub returns-clause-looks : goal.returns-clause-looks
 returns-clause-looks g c =
