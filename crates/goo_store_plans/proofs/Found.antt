@@ -15,7 +15,7 @@ use Rattle.goo_spec_tables.proofs.Known.{text_same, text_itself, get-known}
 use Rattle.goo_spec_tables.specs.Places.{lot_of}
 use Rattle.goo_store_plans.specs.Found.{IsStated, IsMissing, AreStated, AreMissing, key_in}
 use Rattle.goo_store_plans.specs.LotNumbers.{AreJustWith, IsNumberOf}
-use Rattle.goo_store_plans.specs.LotRows.{is_among, is_left_out}
+use Rattle.goo_store_plans.specs.LotRows.{is_among, is_among_missing}
 use Rattle.goo_store_plans.specs.NewLots.{known_lots}
 use Rattle.goo_store_plans.specs.declared.known_rows.LotKey.{LotKey}
 use Rattle.goo_store_plans.specs.declared.lot_numbers.NumberedLot.{NumberedLot}
@@ -70,10 +70,10 @@ kept_known lots (x ∷ xs) key are among = go (eq_by_cmp text_cmp key (key_of x.
     go false other later rest = rest later
 
 -- a lot that is among those that are missing is not known
-pub missing_unknown : (lots : List Lot) (missing : List LotKey) (key : List ℕ) → AreMissing lots missing → is_left_out missing key ≡ true → contains_key (known_lots lots) key ≡ false
+pub missing_unknown : (lots : List Lot) (missing : List LotKey) (key : List ℕ) → AreMissing lots missing → is_among_missing missing key ≡ true → contains_key (known_lots lots) key ≡ false
 missing_unknown lots [] key are among = absurd (true≢false (sym among))
 missing_unknown lots (k ∷ ks) key are among = go (eq_by_cmp text_cmp key (key_in k)) refl among (missing_unknown lots ks key (All-tail (IsMissing lots) k ks are))
   where
-    go : (b : Bool) → eq_by_cmp text_cmp key (key_in k) ≡ b → (b || is_left_out ks key) ≡ true → (is_left_out ks key ≡ true → contains_key (known_lots lots) key ≡ false) → contains_key (known_lots lots) key ≡ false
+    go : (b : Bool) → eq_by_cmp text_cmp key (key_in k) ≡ b → (b || is_among_missing ks key) ≡ true → (is_among_missing ks key ≡ true → contains_key (known_lots lots) key ≡ false) → contains_key (known_lots lots) key ≡ false
     go true same here rest = subst (λ x. contains_key (known_lots lots) x ≡ false) (sym (text_same key (key_in k) same)) (All-head (IsMissing lots) k ks are)
     go false other later rest = rest later

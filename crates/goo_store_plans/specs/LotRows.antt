@@ -56,8 +56,8 @@ abbrev pub is_among : List NumberedLot → List ℕ → Bool
 is_among xs key = list_any (λ x. eq_by_cmp text_cmp key (key_of x.lot)) xs
 
 -- whether a lot of this key is among those that are missing
-abbrev pub is_left_out : List LotKey → List ℕ → Bool
-is_left_out ks key = list_any (λ k. eq_by_cmp text_cmp key (key_in k)) ks
+abbrev pub is_among_missing : List LotKey → List ℕ → Bool
+is_among_missing ks key = list_any (λ k. eq_by_cmp text_cmp key (key_in k)) ks
 
 -- What holds while the lots of a notice's parts are gathered: the rows that are new, beside the numbered lots, and the next number;
 -- whatever is put in for the parts that are left stands behind.

@@ -14,7 +14,7 @@ ghost use Rattle.goo_store_changes.specs.Changes.{ChangeFits};
 ghost use Rattle.goo_store_plans.specs.Found.{AreLots, IsNext};
 ghost use Rattle.goo_store_plans.specs.GatheredLots.{AddsLot, ArePutIn, Gathers};
 ghost use Rattle.goo_store_plans.specs.LookingUp.{LooksUp};
-ghost use Rattle.goo_store_plans.specs.LotRows.{is_among, is_left_out, next_lot};
+ghost use Rattle.goo_store_plans.specs.LotRows.{is_among, is_among_missing, next_lot};
 ghost use Rattle.goo_store_plans.specs.NewLots.{known_lots};
 ghost use Rattle.goo_store_plans.specs.StoreFaults.{BlamesDisk};
 ghost use Rattle.goo_store_values.specs.Passing.{Accepts, Passes};
@@ -133,7 +133,7 @@ fn is_among_lots(lots: &[NumberedLot], lot: &Lot) -> bool
 
 /// Whether a lot of the same origin, device and first day is among those that are missing.
 fn is_missing(missing: &[LotKey], lot: &Lot) -> bool
-    ensures { result ≡ is_left_out missing.now (key_of lot.now) }
+    ensures { result ≡ is_among_missing missing.now (key_of lot.now) }
 {
     missing.iter().any(|key| key.is_key_of(lot))
 }

@@ -1,7 +1,7 @@
 use Rattle.std.proofs.Common.{Ok, true, false, ap, sym, ◌∙◌}
 use Rattle.sqlite.specs.Held.{state}
 use Rattle.goo_spec.specs.Lots.{key_of}
-use Rattle.goo_store_plans.specs.LotRows.{is_among, is_left_out}
+use Rattle.goo_store_plans.specs.LotRows.{is_among, is_among_missing}
 use Rattle.goo_store_plans.proofs.Found.{kept_known, missing_unknown}
 use Rattle.goo_store_plans.proofs.LookUps.{looks_none, looks_so}
 use Rattle.goo_store_plans.proofs.Refusing.{blames_none}
@@ -13,7 +13,7 @@ returns-then-among-clause-looks g c = looks_none (state g.S.Store c.args.conn.no
 pub returns-then-missing-clause-looks : goal.returns-then-missing-clause-looks
 returns-then-missing-clause-looks g c =
     looks_none (state g.S.Store c.args.conn.now) (Ok false) _
-    (λ t it are. sym (missing_unknown t.lots c.args.kept.now.missing.items (key_of c.args.lot.now) are.missing (ap (λ ks. is_left_out ks (key_of c.args.lot.now)) (sym c.deref-2.ensures.value) ∙ sym c.is_missing-missing.ensures ∙ c.if-missing.true)))
+    (λ t it are. sym (missing_unknown t.lots c.args.kept.now.missing.items (key_of c.args.lot.now) are.missing (ap (λ ks. is_among_missing ks (key_of c.args.lot.now)) (sym c.deref-2.ensures.value) ∙ sym c.is_missing-missing.ensures ∙ c.if-missing.true)))
 
 pub returns-clause-looks : goal.returns-clause-looks
 returns-clause-looks g c = looks_so (state g.S.Store c.args.conn.now) (state g.S.Store c.is_in_table.new.conn) c.is_in_table.result _ _ c.is_in_table.ensures.looks (λ t it known is are. is)
