@@ -22,7 +22,7 @@ use goo_store_pieces::pieces::is_beyond;
 use goo_store_plans::known_rows::Edges;
 use goo_store_values::statement_fault::StatementFault;
 use goo_tables_accounts::joined::{next_expiring, next_of_account, page_of_account};
-use goo_tables_pages::account_pieces::page_of_account as rows_of_account;
+use goo_tables_pages::account_pieces::rows_of_account;
 use goo_tables_rows::joined::JoinedRow;
 use goo_tables_rows::piece::PieceRow;
 use goo_types::account_no::AccountNo;

@@ -23,7 +23,7 @@ use std::alloc::Global;
 /// On the tables of a registry: `SqliteFailure` where memory was refused, the disk failed or an
 /// earlier failure shut the connection, and an error of reading where a row can't be read. The
 /// database stays as it was.
-pub fn page_of_account<S: Alter>(
+pub fn rows_of_account<S: Alter>(
     alloc: Global,
     conn: &mut Connection<S>,
     account: u32,

@@ -1,7 +1,7 @@
 use Rattle.sqlite.specs.Held.{state}
 use Rattle.goo_tables_rows.specs.Readable.{piece_readable}
 use Rattle.goo_tables_pages.proofs.AccountQueries.{page_asks, page_shows, readable_page}
-use Rattle.goo_tables_pages.proofs.account_pieces.page_of_account.Goals as goal
+use Rattle.goo_tables_pages.proofs.account_pieces.rows_of_account.Goals as goal
 use Rattle.goo_tables_accounts.proofs.Asking.{looks_up, refused, refused_readable}
 
 pub returns-clause-looks : goal.returns-clause-looks
