@@ -137,7 +137,7 @@ impl<S: Alter> SqlShelf<S> {
         }
         let found = ask_rows(self.alloc, &mut self.conn, account, &row);
         self.cache.answered = found.is_ok();
-        self.shares_lots = rows_share_lots(&found);
+        self.sharing_lots = rows_share_lots(&found).then_some(account);
         let shown = read_rows(found, account, row, &mut self.cache.ahead);
         note_fault(shown, &mut self.refused)
     }
@@ -156,7 +156,7 @@ impl<S: Alter> SqlShelf<S> {
         }
         let found = ask_pieces(self.alloc, &mut self.conn, account, &row);
         self.cache.answered = found.is_ok();
-        self.shares_lots = pieces_share_lots(&found);
+        self.sharing_lots = pieces_share_lots(&found).then_some(account);
         let shown = read_pieces(
             self.alloc,
             found,
@@ -169,8 +169,8 @@ impl<S: Alter> SqlShelf<S> {
     }
 
     /// A row of an account that was found, once the rows that follow it were read ahead and kept.
-    /// Their lots are not read where most rows of the page before shared theirs: one that isn't
-    /// kept then takes a statement of its own.
+    /// Their lots are not read where most rows of the account's page before, a full one, shared
+    /// theirs: one that isn't kept then takes a statement of its own.
     fn follow(&mut self, account: AccountNo, row: Piece) -> Result<Option<Piece>, Fault>
         requires { defects (database_of self.now) ≡ 0
             → IsEdge (Some row.last) (rows_of (tables_in (database_of self.now))) }
@@ -179,7 +179,7 @@ impl<S: Alter> SqlShelf<S> {
         ensures store { Blames self.old self.new result }
         ensures row { IfOk result (λ found. found ≡ Some row) }
     {
-        if self.shares_lots {
+        if self.sharing_lots == Some(account) {
             self.follow_by_rows(account, row)
         } else {
             self.follow_by_pieces(account, row)

@@ -24,6 +24,7 @@ use goo_store_open::fault::OpenFault;
 use goo_store_opening::creating::{begin, is_empty};
 use goo_store_pieces::cache::Cache;
 use goo_store_plans::known_rows::KnownRows;
+use goo_types::account_no::AccountNo;
 use goo_types::day::Day;
 use goo_types::registry_code::RegistryCode;
 use goo_types::serial::Serial;
@@ -40,8 +41,9 @@ pub struct SqlShelf<S: Alter> {
     pub(crate) refused: bool,
     pub(crate) known_rows: KnownRows,
     pub(crate) cache: Cache,
-    // Whether most rows of the page that was read ahead last were of the lot of the row before.
-    pub(crate) shares_lots: bool,
+    // The account of the page that was read ahead last, where that page was full and most of its
+    // rows were of the lot of the row before.
+    pub(crate) sharing_lots: Option<AccountNo>,
     ghost outside: { conn.in_transaction ≡ false },
     ghost well: { IsWell (view S.Store conn) } by { IsWell-prop (view S.Store conn) },
     ghost known: { Knows (view S.Store conn) known_rows } by { Knows-prop (view S.Store conn) known_rows },
@@ -56,7 +58,7 @@ impl<S: Alter + Drop> Drop for SqlShelf<S> {
             refused: _,
             known_rows: _known_rows,
             cache: _cache,
-            shares_lots: _,
+            sharing_lots: _,
         } = self;
     }
 }
@@ -78,7 +80,7 @@ impl<S: Alter> SqlShelf<S> {
             refused: false,
             known_rows: KnownRows::none(alloc),
             cache: Cache::none(alloc),
-            shares_lots: false,
+            sharing_lots: None,
         }
     }
 
@@ -162,7 +164,7 @@ impl<S: Alter> SqlShelf<S> {
             refused: _,
             known_rows: _known_rows,
             cache: _cache,
-            shares_lots: _,
+            sharing_lots: _,
         } = self;
         conn
     }

@@ -176,12 +176,12 @@ pub fn read_pieces(
     Ok(Some(row))
 }
 
-/// Whether most of as many rows were of the lot of the row before them.
+/// Whether as many rows are a full page, and most of them were of the lot of the row before them.
 fn are_most(shared: usize, rows: usize) -> bool {
-    shared > rows / 3 * 2
+    rows == PAGE && shared > PAGE / 3 * 2
 }
 
-/// Whether most rows of a page are of the lot of the row before them.
+/// Whether a page is full and most of its rows are of the lot of the row before them.
 pub fn rows_share_lots(found: &Result<Vec<PieceRow>, Error>) -> bool {
     let Ok(page) = found else {
         return false;
