@@ -146,6 +146,11 @@ def a_long_statement_lacks_a_run(text):
     return without_run(text, 2, 5)
 
 
+@wrong('text', 'on-a-file --only texts/statements-of-many-rows')
+def a_statement_of_two_pages_lacks_a_run(text):
+    return without_run(text, 258, 515)
+
+
 def without_run(text, at, least):
     """A statement of so many runs at least without one of them."""
     lines = text.split(b'\n')
