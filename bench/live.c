@@ -1,4 +1,4 @@
-/* Loaded ahead of the C library's (LD_PRELOAD): how much memory was live while standard output was written.
+/* Loaded ahead of the C library (LD_PRELOAD): how much memory was live while standard output was written.
  *
  * In the end it writes three numbers into the file LIVE: how often the program wrote there, and the least and the most bytes that were live from its
  * first write to its last. What is freed behind the last one is the program's end.

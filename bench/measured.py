@@ -120,10 +120,10 @@ def peak(process):
 class Run:
     """A run of a command to its end: processor seconds, seconds by the clock, peak memory in MB."""
 
-    def __init__(self, words, given=os.devnull, to=os.devnull, fine=(0,)):
+    def __init__(self, words, given=os.devnull, to=os.devnull, fine=(0,), around=None):
         self.memory, begun = 0, time.monotonic()
         with open(given, 'rb') as source, open(to, 'wb') as target:
-            child = subprocess.Popen([str(word) for word in words], stdin=source, stdout=target)
+            child = subprocess.Popen([str(word) for word in words], stdin=source, stdout=target, env=around)
         try:
             status, used = self.watch(child.pid, begun + SECONDS)
         except BaseException:
@@ -153,16 +153,44 @@ def goo(*words, **streams):
     return Run([PROGRAM, *words], **streams)
 
 
+@functools.cache
+def compiles():
+    """Whether there is a C compiler; says so where there isn't."""
+    if shutil.which('cc'):
+        return True
+    say('no cc: what is measured while a statement is written is left out')
+    return False
+
+
+def ahead(name, folder, told):
+    """The surroundings of a run, with NAME.c loaded ahead of the C library; what it tells goes to a file."""
+    library = folder / f'{name}.so'
+    if not library.exists():
+        subprocess.run(['cc', '-O2', '-shared', '-fPIC', '-o', library, HERE / f'{name}.c'], check=True)
+    return {**os.environ, 'LD_PRELOAD': str(library), name.upper(): str(told)}
+
+
+def numbers(told):
+    """The numbers that such a library told."""
+    return tuple(map(int, told.read_text(encoding='utf-8').split()))
+
+
 def live(folder, *words):
     """How often a run of the program writes to standard output, and the least and the most bytes live from the first to the last of it; None without a C compiler."""
-    if not shutil.which('cc'):
-        say('no cc: the memory that is live is not measured')
+    if not compiles():
         return None
-    library, told = folder / 'live.so', folder / 'live'
-    subprocess.run(['cc', '-O2', '-shared', '-fPIC', '-o', library, HERE / 'live.c'], check=True)
-    around = {**os.environ, 'LD_PRELOAD': str(library), 'LIVE': str(told)}
-    subprocess.run([PROGRAM, *map(str, words)], env=around, stdout=subprocess.DEVNULL, check=True, timeout=SECONDS)
-    return tuple(map(int, told.read_text(encoding='utf-8').split()))
+    told = folder / 'live'
+    subprocess.run([PROGRAM, *map(str, words)], env=ahead('live', folder, told), stdout=subprocess.DEVNULL, check=True, timeout=SECONDS)
+    return numbers(told)
+
+
+def writing(run, folder, *words, **streams):
+    """What `goo` or `rust_run` gives, with the seconds from the first write of standard output to the last in place of those of the whole run."""
+    told = folder / 'writing'
+    made = run(*words, around=ahead('writing', folder, told), **streams)
+    if made:
+        made.seconds, made.clock = (nanoseconds / 1e9 for nanoseconds in numbers(told))
+    return made
 
 
 def python(lines, path=':memory:'):

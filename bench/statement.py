@@ -2,8 +2,8 @@
 
 usage: python3 bench/statement.py
 
-Opening reads and judges all tables, whatever is asked then: it is measured by a run over the same file that asks for nothing, beside SQLite's own `integrity_check`. What a
-statement takes beyond that is its own; its peak of memory is that of the whole run, opening too.
+Opening reads and judges all tables, whatever is asked then: it is measured by a run over the same file that asks for nothing, beside SQLite's own `integrity_check`. The seconds of
+a statement are those from the first write of its text to the last (writing.c), so that opening is not in them; its peak of memory is that of the whole run, opening too.
 All texts are compared, byte for byte. What a statement holds while it is written is measured apart (live.c): the most bytes that are live between its first and its last
 write, and beside it those of a statement of ten runs, of another account of the same file. The files lie on tmpfs where there is one.
 """
@@ -13,7 +13,7 @@ import sys
 import time
 from contextlib import closing
 
-from measured import HEAD, NEW, fast, goo, head, least, live, machine, measured_row, room, rust_run, workload
+from measured import HEAD, NEW, compiles, fast, goo, head, least, live, machine, measured_row, room, rust_run, workload, writing
 
 TURNS = 6
 SIZE = 32_000
@@ -59,9 +59,9 @@ def checked_run(folder):
 def stated(folder):
     """The statement of account 1, the query in Python that writes the same, and the one in Rust."""
     ours, theirs, copy = folder / 'ours', folder / 'theirs', folder / 'copy'
-    found = goo('statement', '1', '--db', folder / 'registry', to=ours), plain(folder / 'registry', theirs)
+    found = writing(goo, folder, 'statement', '1', '--db', folder / 'registry', to=ours), plain(folder / 'registry', theirs)
     shutil.copyfile(folder / 'registry', copy)
-    of_rust = rust_run(copy, '--statement', '1', to=folder / 'plain')
+    of_rust = writing(rust_run, folder, copy, '--statement', '1', to=folder / 'plain')
     texts = {ours.read_bytes(), theirs.read_bytes(), *([(folder / 'plain').read_bytes()] if of_rust else [])}
     if len(texts) != 1:
         sys.exit('the statements differ')
@@ -74,12 +74,6 @@ def in_turns(*works):
     return [(least(own), min(seconds), least(of_rust)) for own, seconds, of_rust in (zip(*of_work) for of_work in zip(*turns))]
 
 
-def beyond(own, opening):
-    """What a run takes beyond opening the file."""
-    own.seconds, own.clock = max(own.seconds - opening.seconds, 0.001), max(own.clock - opening.clock, 0.001)
-    return own
-
-
 def show(work, place, own, of_python, of_rust):
     """Prints the row of a work."""
     measured_row(work, place, SIZE, own, of_rust=of_rust, of_python=of_python)
@@ -90,11 +84,12 @@ def main():
     place = fast()
     with room(place) as of_declarations, room(place) as of_runs:
         declarations, runs = made(of_declarations, 'declarations'), made(of_runs, 'runs')
-        opening, of_holdings, (own, *others) = in_turns((checked_run, declarations), (checked_run, runs), (stated, runs))
+        opening, of_holdings, *of_texts = in_turns((checked_run, declarations), (checked_run, runs), *([(stated, runs)] if compiles() else []))
         whole, ten = [live(of_runs, 'statement', account, '--db', runs / 'registry') for account in (1, 3)]
     show('opening a file, declarations', place, *opening)
     show('opening a file, runs', place, *of_holdings)
-    show('`statement` beyond opening, runs', place, beyond(own, of_holdings[0]), *others)
+    for figures in of_texts:
+        show('`statement` beyond opening, runs', place, *figures)
     if not whole or not ten:
         return ''
     return f'While the statement of {SIZE:,} runs is written {whole[2]:,} bytes are live at most, and {ten[2]:,} while one of ten runs of the same file is.'
