@@ -70,7 +70,7 @@ def ratio(one, other):
 
 def megabytes(run):
     """The peak of a run, if there was one; of a short one it was not seen."""
-    return f'{run.memory:.0f}' if run and run.clock > 0.1 else ''
+    return f'{run.memory:.0f}' if run and run.is_seen else ''
 
 
 def measured_row(work, place, count, run, of_rust=None, as_it_comes=None, of_python=None):
@@ -118,7 +118,7 @@ def peak(process):
 
 
 class Run:
-    """A run of a command to its end: processor seconds, seconds by the clock, peak memory in MB."""
+    """A run of a command to its end: processor seconds, seconds by the clock, peak memory in MB, and whether the run was long enough for that to be seen."""
 
     def __init__(self, words, given=os.devnull, to=os.devnull, fine=(0,), around=None):
         self.memory, begun = 0, time.monotonic()
@@ -133,6 +133,7 @@ class Run:
         if child.returncode not in fine:
             sys.exit(f'{" ".join(map(str, words))} ended with status {child.returncode}')
         self.clock = time.monotonic() - begun
+        self.is_seen = self.clock > 0.1
         self.seconds = used.ru_utime + used.ru_stime
 
     def watch(self, process, until):
