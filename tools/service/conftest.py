@@ -1,0 +1,33 @@
+"""What all tests of the service share: where modules are found, the houses, and how chance goes."""
+import signal
+import sys
+from collections.abc import Iterator
+from pathlib import Path
+
+import pytest
+
+sys.dont_write_bytecode = True
+TOP = Path(__file__).resolve().parents[2]
+sys.path[:0] = [str(TOP / name) for name in ('tools/service', 'tools/lib', 'deploy')]
+
+import hypothesis
+from house import House
+
+signal.signal(signal.SIGTERM, signal.default_int_handler)
+"""An end from outside ends the houses too: tools/lib/loopback.py would end one test alone by it."""
+hypothesis.settings.register_profile('goo', database=None, deadline=None, print_blob=True)
+hypothesis.settings.load_profile('goo')
+
+
+@pytest.fixture(scope='session')
+def house() -> Iterator[House]:
+    """One house for all tests: each uses holders, accounts and keys of its own in it."""
+    with House() as standing:
+        yield standing
+
+
+@pytest.fixture
+def own_house() -> Iterator[House]:
+    """A house for one test."""
+    with House() as standing:
+        yield standing

@@ -1,0 +1,340 @@
+"""A house: nginx, the log of requests, the registry and the records of acts, standing together.
+
+All of it is in one temporary folder and on free ports, is there within seconds, and ends with the
+`with`. The configuration of nginx and the commands of the units are those of deploy/, with their
+paths and ports changed. Several houses may stand side by side.
+
+    with House() as house:
+        country = house.make_country()
+        answer = house.ask('anna', 'GET', f'/v1/accounts/{country.sun}/statement')
+
+A part is one of 'nginx', 'log', 'registry', 'records' (which makes the book) and 'web' (which
+answers from the book). Nothing starts a part anew that has ended: a trial does, by `start`.
+"""
+import json
+import os
+import re
+import shlex
+import shutil
+import signal
+import subprocess
+import tempfile
+import time
+from collections.abc import Iterable
+from dataclasses import dataclass
+from pathlib import Path
+from typing import Any
+from typing import Self
+
+import client
+import loopback
+from mutations import gsrn
+from parts import Guard
+from parts import Part
+
+TOP = Path(__file__).resolve().parents[2]
+DEPLOY = TOP / 'deploy'
+CODE = 7
+DAY = '2025-03-01'
+MORE_USERS = ('audit ISSUER reads', 'meter ISSUER declares')
+PARTS = ('registry', 'log', 'records', 'web', 'nginx')
+"""In the order in which they are started."""
+RATE = 1000
+"""Requests a second by the limits of the front door, unless a house has them as shipped."""
+
+
+@dataclass(frozen=True)
+class Answer:
+    """An answer over HTTP."""
+
+    status: int
+    fields: dict[str, str]
+    """By their names in small letters."""
+    body: bytes
+
+    @property
+    def text(self) -> str:
+        return self.body.decode()
+
+    @property
+    def json(self) -> Any:
+        return json.loads(self.body)
+
+    @property
+    def entry(self) -> int | None:
+        """The number of the entry, or that by which a read stands."""
+        value = self.fields.get('goo-entry')
+        return int(value) if value else None
+
+
+@dataclass(frozen=True)
+class Country:
+    """What make_country made: two accounts, a device of the first one, and its certificates."""
+
+    sun: int
+    volt: int
+    device: str
+    first: int
+    last: int
+
+
+class Unexpected(AssertionError):
+    """An answer that is another one than a trial needs to go on."""
+
+
+def read_answer(came: client.Answer) -> Answer:
+    fields = {name.lower(): value for name, value in came.fields.items()}
+    return Answer(came.status, fields, came.body)
+
+
+def fields_of(named: dict[str, str]) -> list[str]:
+    """The lines of a head: GOO_Caller='SUN' is the field GOO-Caller."""
+    return [f'{name.replace("_", "-")}: {value}' for name, value in named.items()]
+
+
+class House:
+    """One standing service. `deploy` may be a changed copy of deploy/.
+
+    `changes` are pieces of goo.conf and what takes their place. With `rate` None the limits of
+    the front door are as shipped. `day` is the registry's date at the beginning.
+    """
+
+    def __init__(self, *, day: str = DAY, rate: int | None = RATE, deploy: Path = DEPLOY,
+                 changes: Iterable[tuple[str, str]] = ()) -> None:
+        self.day, self.deploy = day, deploy
+        self.door = loopback.Place(day, rate, changes=changes, more=MORE_USERS, cost=4)
+        self.door.deploy = deploy
+        self.goo = str(Path(self.door.goo).resolve())
+        self.users: dict[str, str] = {user: word for user, (_, word) in self.door.users.items()}
+        """The password of each user."""
+        self.keys = 0
+
+    # ---------------------------------------------------------------- standing
+
+    def __enter__(self) -> Self:
+        self.folder = Path(tempfile.mkdtemp(prefix='goo-house-'))
+        self.folder.chmod(0o755)
+        self.guard = Guard(self.folder)
+        self.parts: dict[str, Part] = {}
+        try:
+            self.lay()
+            self.parts['registry'].start()
+            self.parts['log'].start()
+            for name in ('records', 'web', 'nginx'):
+                self.parts[name].launch()
+            for name in ('records', 'web', 'nginx'):
+                self.parts[name].wait()
+        except BaseException:
+            self.__exit__()
+            raise
+        return self
+
+    def __exit__(self, *_: object) -> None:
+        for part in self.parts.values():
+            part.send(signal.SIGTERM)
+        for part in self.parts.values():
+            part.end(signal.SIGKILL)
+        shutil.rmtree(self.folder, ignore_errors=True)
+        self.guard.end()
+
+    def lay(self) -> None:
+        """An empty registry, its log, its first copy, and the files of the front door."""
+        self.db = self.folder / 'registry' / 'registry.db'
+        self.state = self.folder / 'replica'
+        self.book = self.folder / 'records'
+        self.copies = self.folder / 'copies'
+        self.key = self.folder / 'replica.key'
+        for folder in (self.db.parent, self.state, self.book, self.copies):
+            folder.mkdir()
+        self.key.write_text('a key that the log of a house has')
+        self.run(self.goo, 'init', '--db', self.db, '--code', CODE, '--today', self.day)
+        for words in (('found',), ('first-copy',)):
+            done = self.log_words(*words)
+            if done.returncode:
+                raise Unexpected(f'replica-log {words}: {done.stderr}')
+        version = self.log_words('program').stdout
+        (self.folder / 'version').write_text(version)
+        self.lay_door()
+        self.lay_parts()
+
+    def lay_door(self) -> None:
+        self.door.dir = self.folder
+        self.door.exchange = self.folder / 'exchange'
+        self.door.exchange.mkdir()
+        self.door.lay_nginx()
+        self.port, self.plain = self.door.port, self.door.plain
+        self.registry_port = client.free_port()
+
+    def lay_parts(self) -> None:
+        begun = ['--begun', str(CODE), self.day, '1',
+                 '--archive', str(self.state / 'archive'), '--into', str(self.book)]
+        door, web = self.folder / 'door.sock', self.folder / 'web.sock'
+        listen = ['--listen', str(door), '--store', str(self.state / 'log'), '--name', 'house']
+        self.add('registry', lambda: self.unit('goo.service'),
+                 lambda _: client.is_open(self.registry_port))
+        self.add('log', lambda: [*self.unit('goo-replica.service'), *listen], self.log_takes)
+        self.add('records', lambda: [*self.unit('goo-records.service'), *begun], self.is_made)
+        self.add('web', lambda: [*self.unit('goo-records-web.service'), '--bind', f'unix:{web}'],
+                 lambda _: client.is_open(web),
+                 GOO_RECORDS=str(self.book), GOO_EXCHANGE=str(self.book / 'exchange.json'))
+        self.add('nginx', lambda: [str(word) for word in self.door.nginx_words()],
+                 lambda _: client.is_open(self.port))
+        self.parts['nginx'].before = self.clear_desk
+
+    def add(self, name: str, words: Any, is_there: Any, **environment: str) -> None:
+        self.parts[name] = Part(name, words, is_there, self.folder, self.guard, environment)
+
+    def unit(self, name: str) -> list[str]:
+        """The command of a unit, with its paths changed for those of this house."""
+        text = (self.deploy / 'systemd' / name).read_text()
+        line = re.search(r'(?m)^ExecStart=(.*)$', text)
+        assert line, f'{name} has no ExecStart'
+        words = [word for word in shlex.split(line[1]) if not word.startswith('$')]
+        for old, new in self.places():
+            words = [word.replace(old, new) for word in words]
+        return words
+
+    def places(self) -> list[tuple[str, str]]:
+        """Each path of the units, and what stands for it here; the longest first."""
+        named = {
+            '/usr/lib/goo': self.deploy, '/usr/bin/goo': self.goo, '8470': self.registry_port,
+            '/var/lib/goo/registry.db': self.db, '/var/lib/goo-replica': self.state,
+            '/var/lib/goo-records': self.book, '/etc/goo/replica.key': self.key,
+            '/etc/goo': self.door.etc, '/run/goo/registry.sock': f'127.0.0.1:{self.registry_port}',
+            '/run/goo-records': self.folder, '/run/goo': self.folder}
+        longest_first = sorted(named, key=len, reverse=True)
+        return [(old, str(named[old])) for old in longest_first]
+
+    def log_takes(self, _: float) -> bool:
+        try:
+            return bool(self.health().get('ok'))
+        except (OSError, ValueError):
+            return False
+
+    def is_made(self, begun: float) -> bool:
+        """Whether a book was published since a time."""
+        current = self.book / 'current'
+        return current.is_symlink() and current.lstat().st_mtime >= begun - 0.01
+
+    def clear_desk(self) -> None:
+        """A killed nginx leaves its inner socket behind; its unit removes it before a start."""
+        (self.folder / 'desk.sock').unlink(missing_ok=True)
+
+    # ---------------------------------------------------------------- parts
+
+    def start(self, part: str) -> None:
+        """Starts a part that was ended, and waits until it takes requests."""
+        self.parts[part].start()
+        if part == 'registry' and self.parts['log'].process:
+            client.comes(lambda: self.log_takes(0), 10)     # the log looks for it now and then
+
+    def stop(self, part: str) -> None:
+        """Ends a part as systemd does it."""
+        self.parts[part].end()
+
+    def kill(self, part: str) -> None:
+        """Kills all processes of a part."""
+        self.parts[part].end(signal.SIGKILL)
+
+    def restart(self, part: str) -> None:
+        self.stop(part)
+        self.start(part)
+
+    def said(self, part: str) -> str:
+        """What a part has written to its two streams."""
+        return self.parts[part].said.read_text(errors='replace')
+
+    # ---------------------------------------------------------------- requests
+
+    def ask(self, user: str | None, method: str, path: str, body: bytes | str = b'', *,
+            password: str | None = None, patience: float = 60, **fields: str) -> Answer:
+        """One request through TLS and the front door. Without a user nobody signs in."""
+        body = body.encode() if isinstance(body, str) else body
+        lines = [client.CLOSE, *fields_of(fields)]
+        if user is not None:
+            word = self.users.get(user, '') if password is None else password
+            lines.append(f'Authorization: Basic {client.basic(user, word)}')
+        sent = client.request(method, path, None, lines, f'localhost:{self.port}', body)
+        return read_answer(client.answered(self.port, sent, patience=patience, tls=self.door.tls()))
+
+    def ask_log(self, caller: str, method: str, path: str, body: bytes | str = b'', *,
+                role: str = 'full', user: str = '', address: str = '',
+                patience: float = 60) -> Answer:
+        """One request at the log's own socket. A field that is empty is not sent."""
+        body = body.encode() if isinstance(body, str) else body
+        named = {'GOO-Role': role, 'GOO-User': user, 'GOO-Address': address}
+        lines = [client.CLOSE, *fields_of({name: value for name, value in named.items() if value})]
+        sent = client.request(method, path, caller or None, lines, 'goo', body)
+        return read_answer(client.answered(self.folder / 'door.sock', sent, patience=patience))
+
+    def send(self, user: str, command: str, *, key: str | None = None, **members: Any) -> Answer:
+        """A request of a user, under a key of its own unless one is given."""
+        self.keys += 1
+        body = {'command': command, 'key': key or f'key-{self.keys}', **members}
+        return self.ask(user, 'POST', '/v1/requests', json.dumps(body))
+
+    def must(self, user: str, command: str, *, key: str | None = None, **members: Any) -> Any:
+        """The reply to a request that has to be accepted, or to have been."""
+        answer = self.send(user, command, key=key, **members)
+        if answer.status != 200 or answer.json['outcome'] not in ('accepted', 'repeated'):
+            raise Unexpected(f'{command}: {answer.status} {answer.text}')
+        return answer.json['reply']
+
+    def health(self) -> dict[str, Any]:
+        """What the log says of itself."""
+        answer = self.ask_log('', 'GET', '/healthz', patience=5)
+        return dict(answer.json)
+
+    def entry(self) -> int:
+        """Up to which entry the log is applied."""
+        return int(self.health()['entry'])
+
+    def wait_for_book(self, entry: int | None = None, patience: float = 60) -> None:
+        """Waits until the records have all up to an entry, or up to the log's end."""
+        entry, until = entry or self.entry(), time.monotonic() + patience
+        while self.book_entry() < entry:
+            if time.monotonic() > until:
+                raise Unexpected(f'the book ends at entry {self.book_entry()}, not at {entry}')
+            time.sleep(0.05)
+
+    def book_entry(self) -> int:
+        answer = self.ask('office', 'GET', '/records/v1/status')
+        return int(answer.json['stands']['entry']) if answer.status == 200 else 0
+
+    # ---------------------------------------------------------------- the operator
+
+    def run(self, *words: object, check: bool = True,
+            **environment: str) -> subprocess.CompletedProcess[str]:
+        """A command; where `check` is set, one that has to succeed."""
+        done = subprocess.run([str(word) for word in words], capture_output=True, text=True,
+                              env={**os.environ, **environment}, cwd=self.folder, check=False)
+        if check and done.returncode:
+            raise Unexpected(f'{words}: {done.stdout} {done.stderr}')
+        return done
+
+    def log_words(self, *words: object) -> subprocess.CompletedProcess[str]:
+        """replica-log with the paths of this house."""
+        return self.run(
+            self.deploy / 'replica-log', *words, '--state', self.state, '--key', self.key,
+            '--door', self.folder / 'door.sock', '--copies', self.copies, '--db', self.db,
+            '--goo', self.goo, '--name', 'house', check=False, TMPDIR=str(self.folder),
+            GOO_EXCHANGE='/nowhere', GOO_CONFIGURATION='/nowhere')
+
+    def make_country(self, count: int = 100) -> Country:
+        """Holders SUN and VOLT with an account each, a device of SUN's, and its certificates.
+
+        Asked for again it is the same country, whoever holds its certificates by then.
+        """
+        accounts = {}
+        for holder in ('SUN', 'VOLT'):
+            self.must('office', 'open_holder', key=f'country-{holder}', holder=holder, name=holder)
+            reply = self.must('office', 'open_account', key=f'country-a-{holder}', holder=holder)
+            accounts[holder] = reply['account']
+        device = gsrn(900)
+        self.must('office', 'register_device', key='country-d', account=accounts['SUN'],
+                  device=device, country='DE', site='North', tech='T010000', source='F01010100',
+                  capacity_w=2_000_000_000, commissioned='2020-06-15', support='none')
+        reply = self.must('office', 'declare', key='country-m', device=device, aux_wh=0,
+                          first_day='2025-01-01', last_day='2025-01-31', gross_wh=count * 10**6)
+        return Country(accounts['SUN'], accounts['VOLT'], device, int(reply['first']),
+                       int(reply['last']))
