@@ -11,6 +11,7 @@ paths and ports changed. Several houses may stand side by side.
 A part is one of 'nginx', 'log', 'registry', 'records' (which makes the book) and 'web' (which
 answers from the book). Nothing starts a part anew that has ended: a trial does, by `start`.
 """
+import datetime
 import json
 import os
 import re
@@ -33,7 +34,8 @@ from parts import Guard
 from parts import Part
 
 TOP = Path(__file__).resolve().parents[2]
-DEPLOY = TOP / 'deploy'
+DEPLOY = Path(os.environ.get('GOO_DEPLOY', TOP / 'deploy'))
+"""What is tried: another folder than deploy/ is one with a fault planted in it."""
 CODE = 7
 DAY = '2025-03-01'
 ISSUER = 'ISSUER'
@@ -81,6 +83,13 @@ class Country:
 
 class Unexpected(AssertionError):
     """An answer that is another one than a trial needs to go on."""
+
+
+def month_before(day: str) -> tuple[str, str]:
+    """First and last day of the month before the last one: of 2025-03-01 it is January."""
+    last_month = datetime.date.fromisoformat(day).replace(day=1) - datetime.timedelta(1)
+    last = last_month.replace(day=1) - datetime.timedelta(1)
+    return str(last.replace(day=1)), str(last)
 
 
 def accepted(command: str, answer: Answer) -> Any:
@@ -346,7 +355,8 @@ class House:
         self.enter(ISSUER, 'register_device', 'country-d', account=accounts['SUN'],
                    device=device, country='DE', site='North', tech='T010000', source='F01010100',
                    capacity_w=2_000_000_000, commissioned='2020-06-15', support='none')
+        first, last = month_before(self.day)
         reply = self.enter(ISSUER, 'declare', 'country-m', device=device, aux_wh=0,
-                           first_day='2025-01-01', last_day='2025-01-31', gross_wh=count * 10**6)
+                           first_day=first, last_day=last, gross_wh=count * 10**6)
         return Country(accounts['SUN'], accounts['VOLT'], device, int(reply['first']),
                        int(reply['last']))
