@@ -533,14 +533,13 @@ class Run:
 
 class Faults:
     def __init__(self, cluster, seed):
-        self.cluster, self.chance, self.count, self.log, self.torn_bytes = cluster, random.Random(seed), collections.Counter(), [], 0
+        self.cluster, self.chance, self.count, self.log = cluster, random.Random(seed), collections.Counter(), []
 
     def one(self):
         host = self.chance.choice(self.cluster.hosts)
         kinds = {"kill goo": 3, "kill replica": 4, "kill etcd": 3, "cut": 3, "deaf": 2, "lossy": 2, "full": 2, "stop goo": 1, "stop replica": 2, "stop etcd": 2, "kill host": 2, "power": 1}
         if host.alone:
             kinds = {kind: weight for kind, weight in kinds.items() if kind not in ("cut", "deaf", "lossy") and not kind.endswith("etcd")}
-            kinds["torn"] = 3
         if not self.cluster.memory:
             del kinds["full"]
         kind = self.chance.choices(list(kinds), list(kinds.values()))[0]
@@ -557,6 +556,7 @@ class Faults:
             host.send(one, signal.SIGKILL, self.some_of(name))
 
     def power(self, *_):
+        """Everything ends at once. What a disk has then that was not synced is tried in tools/service/test_power.py."""
         for host in self.cluster.hosts:
             self.kill(host, "host")
 
@@ -591,17 +591,6 @@ class Faults:
         time.sleep(self.chance.uniform(1, 4))
         ballast.unlink()
 
-    def torn(self, host, _):
-        """A power failure that takes what was not synced: all ends at once, and files lose some of their ends."""
-        for name in host.names:
-            host.held.add(name)
-        self.kill(host, "host")
-        for name in host.names:
-            host.wait(name, 20)
-        self.torn_bytes += tear(host, self.chance)
-        for name in host.names:
-            host.release(name)
-
     def go(self, seconds):
         end = time.monotonic() + seconds
         while time.monotonic() < end:
@@ -614,35 +603,6 @@ class Faults:
                     thread.join()
             else:
                 self.one()
-
-
-def tear(host, chance):
-    """Takes by chance from what a replica had not synced to the disk: the end of the archive after the last entry that made it
-    sync, the slot of the place in hand, and what is in the log after all that was applied. How many bytes it was."""
-    with open(host.state / "place", "r+b") as file:
-        slots = [int(number[0]) if (number := re.match(rb"\d+", os.pread(file.fileno(), 20, 4096 * slot))) else 0 for slot in (0, 1)]      # one that was torn before is none
-        path = entries.months(host.state / "archive")[-1]
-        kept = last = 0
-        for line, at in entries.lines(path):
-            record = entries.read_record(line)
-            if (record.entry.route, record.outcome.status) != entries.PLAIN or record.entry.n <= min(slots):
-                kept = at
-            last = record.entry.n
-        cut = cut_end(path, chance.randint(kept, path.stat().st_size), chance)
-        if chance.random() < 0.5 and max(slots) > min(slots) > 0:
-            os.pwrite(file.fileno(), b"?" * 512, 4096 * slots.index(max(slots)))
-    log = sorted((host.state / "log").glob("*.jsonl"))[-1]
-    ends = [at for line, at in entries.lines(log) if entries.number_in(line) <= last + 1]
-    synced = ends[-1] if ends else 0                # an entry that was applied had been synced, and one may have been applied and not archived
-    return cut + (cut_end(log, chance.randint(synced, log.stat().st_size), chance) if ends and chance.random() < 0.5 else 0)
-
-
-def cut_end(path, at, chance):
-    """A file loses its end; by chance some of it is bytes that nobody wrote."""
-    text = path.read_bytes()
-    junk = bytes(chance.randrange(256) for _ in range(min(len(text) - at, chance.choice((0, 0, 1, 30, 4096)))))
-    path.write_bytes(text[:at] + junk)
-    return len(text) - at
 
 
 class Weak(threading.Thread):

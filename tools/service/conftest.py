@@ -1,4 +1,5 @@
 """What all tests of the service share: where modules are found, the houses, and how chance goes."""
+import os
 import signal
 import sys
 from collections.abc import Iterator
@@ -8,7 +9,8 @@ import pytest
 
 sys.dont_write_bytecode = True
 TOP = Path(__file__).resolve().parents[2]
-sys.path[:0] = [str(TOP / name) for name in ('tools/service', 'tools/lib', 'deploy')]
+DEPLOY = os.environ.get('GOO_DEPLOY', str(TOP / 'deploy'))
+sys.path[:0] = [str(TOP / 'tools/service'), str(TOP / 'tools/lib'), DEPLOY]
 
 import hypothesis
 from house import House

@@ -11,6 +11,7 @@ paths and ports changed. Several houses may stand side by side.
 A part is one of 'nginx', 'log', 'registry', 'records' (which makes the book) and 'web' (which
 answers from the book). Nothing starts a part anew that has ended: a trial does, by `start`.
 """
+import datetime
 import json
 import os
 import re
@@ -33,9 +34,11 @@ from parts import Guard
 from parts import Part
 
 TOP = Path(__file__).resolve().parents[2]
-DEPLOY = TOP / 'deploy'
+DEPLOY = Path(os.environ.get('GOO_DEPLOY', TOP / 'deploy'))
+"""What is tried: another folder than deploy/ is one with a fault planted in it."""
 CODE = 7
 DAY = '2025-03-01'
+ISSUER = 'ISSUER'
 MORE_USERS = ('audit ISSUER reads', 'meter ISSUER declares')
 PARTS = ('registry', 'log', 'records', 'web', 'nginx')
 """In the order in which they are started."""
@@ -82,6 +85,20 @@ class Unexpected(AssertionError):
     """An answer that is another one than a trial needs to go on."""
 
 
+def month_before(day: str) -> tuple[str, str]:
+    """First and last day of the month before the last one: of 2025-03-01 it is January."""
+    last_month = datetime.date.fromisoformat(day).replace(day=1) - datetime.timedelta(1)
+    last = last_month.replace(day=1) - datetime.timedelta(1)
+    return str(last.replace(day=1)), str(last)
+
+
+def accepted(command: str, answer: Answer) -> Any:
+    """The reply of an answer that says that a request is accepted, or was before."""
+    if answer.status != 200 or answer.json['outcome'] not in ('accepted', 'repeated'):
+        raise Unexpected(f'{command}: {answer.status} {answer.text}')
+    return answer.json['reply']
+
+
 def read_answer(came: client.Answer) -> Answer:
     fields = {name.lower(): value for name, value in came.fields.items()}
     return Answer(came.status, fields, came.body)
@@ -96,12 +113,13 @@ class House:
     """One standing service. `deploy` may be a changed copy of deploy/.
 
     `changes` are pieces of goo.conf and what takes their place. With `rate` None the limits of
-    the front door are as shipped. `day` is the registry's date at the beginning.
+    the front door are as shipped. `day` is the registry's date at the beginning. Of the parts
+    some may be enough: `start` starts another one later.
     """
 
     def __init__(self, *, day: str = DAY, rate: int | None = RATE, deploy: Path = DEPLOY,
-                 changes: Iterable[tuple[str, str]] = ()) -> None:
-        self.day, self.deploy = day, deploy
+                 changes: Iterable[tuple[str, str]] = (), parts: Iterable[str] = PARTS) -> None:
+        self.day, self.deploy, self.begun = day, deploy, tuple(parts)
         self.door = loopback.Place(day, rate, changes=changes, more=MORE_USERS, cost=4)
         self.door.deploy = deploy
         self.goo = str(Path(self.door.goo).resolve())
@@ -118,12 +136,13 @@ class House:
         self.parts: dict[str, Part] = {}
         try:
             self.lay()
-            self.parts['registry'].start()
-            self.parts['log'].start()
-            for name in ('records', 'web', 'nginx'):
-                self.parts[name].launch()
-            for name in ('records', 'web', 'nginx'):
-                self.parts[name].wait()
+            for name in ('registry', 'log'):
+                self.parts[name].start()
+            others = [self.parts[name] for name in self.begun if name not in ('registry', 'log')]
+            for part in others:
+                part.launch()
+            for part in others:
+                part.wait()
         except BaseException:
             self.__exit__()
             raise
@@ -275,10 +294,12 @@ class House:
 
     def must(self, user: str, command: str, *, key: str | None = None, **members: Any) -> Any:
         """The reply to a request that has to be accepted, or to have been."""
-        answer = self.send(user, command, key=key, **members)
-        if answer.status != 200 or answer.json['outcome'] not in ('accepted', 'repeated'):
-            raise Unexpected(f'{command}: {answer.status} {answer.text}')
-        return answer.json['reply']
+        return accepted(command, self.send(user, command, key=key, **members))
+
+    def enter(self, caller: str, command: str, key: str, **members: Any) -> Any:
+        """The reply to a request at the log's own socket, which has to be accepted."""
+        body = json.dumps({'command': command, 'key': key, **members})
+        return accepted(command, self.ask_log(caller, 'POST', '/v1/requests', body, user='office'))
 
     def health(self) -> dict[str, Any]:
         """What the log says of itself."""
@@ -327,14 +348,15 @@ class House:
         """
         accounts = {}
         for holder in ('SUN', 'VOLT'):
-            self.must('office', 'open_holder', key=f'country-{holder}', holder=holder, name=holder)
-            reply = self.must('office', 'open_account', key=f'country-a-{holder}', holder=holder)
+            self.enter(ISSUER, 'open_holder', f'country-{holder}', holder=holder, name=holder)
+            reply = self.enter(ISSUER, 'open_account', f'country-a-{holder}', holder=holder)
             accounts[holder] = reply['account']
         device = gsrn(900)
-        self.must('office', 'register_device', key='country-d', account=accounts['SUN'],
-                  device=device, country='DE', site='North', tech='T010000', source='F01010100',
-                  capacity_w=2_000_000_000, commissioned='2020-06-15', support='none')
-        reply = self.must('office', 'declare', key='country-m', device=device, aux_wh=0,
-                          first_day='2025-01-01', last_day='2025-01-31', gross_wh=count * 10**6)
+        self.enter(ISSUER, 'register_device', 'country-d', account=accounts['SUN'],
+                   device=device, country='DE', site='North', tech='T010000', source='F01010100',
+                   capacity_w=2_000_000_000, commissioned='2020-06-15', support='none')
+        first, last = month_before(self.day)
+        reply = self.enter(ISSUER, 'declare', 'country-m', device=device, aux_wh=0,
+                           first_day=first, last_day=last, gross_wh=count * 10**6)
         return Country(accounts['SUN'], accounts['VOLT'], device, int(reply['first']),
                        int(reply['last']))

@@ -91,6 +91,10 @@ class Part:
         self.launch()
         self.wait()
 
+    def processes(self) -> list[int]:
+        """Those that have not ended."""
+        return processes_of(self.process.pid) if self.process else []
+
     def send(self, number: int) -> None:
         """A signal to all of its processes."""
         if self.process:
@@ -118,16 +122,16 @@ def is_a_group(leader: int) -> bool:
         os.killpg(leader, 0)
     except ProcessLookupError:
         return False
-    return any(state not in 'ZX' for state in states_of(leader))
+    return bool(processes_of(leader))
 
 
-def states_of(leader: int) -> list[str]:
-    """The states of the processes of a group."""
+def processes_of(leader: int) -> list[int]:
+    """The processes of a group that have not ended."""
     found = []
     for path in Path('/proc').glob('[0-9]*/stat'):
         with contextlib.suppress(OSError):
             state, _, group = path.read_text().rsplit(')', 1)[1].split()[:3]
-            found += [state] if int(group) == leader else []
+            found += [int(path.parent.name)] if int(group) == leader and state not in 'ZX' else []
     return found
 
 
