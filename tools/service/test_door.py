@@ -439,7 +439,8 @@ def test_each_line_of_the_log_is_json() -> None:
         client.comes(lambda: log.read_bytes().count(b'\n') == count, 10)
         routes = [line['route'] for line in lines_of_log(place)]
     assert len(routes) == count
-    assert routes[len(every) :] == [
+    after = len(every)
+    assert routes[after:] == [
         *(f'/v1/{text.decode()}/x' for text in LETTERS),
         *('/v1/\ufffd' for _ in NO_LETTERS),
         '/x?y=\ufffd',
