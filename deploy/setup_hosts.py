@@ -104,6 +104,7 @@ def put_configuration(root, goods, at, addresses, balancer):
         write(root / f'etc/systemd/system/{unit}.d/etcd.conf', with_addresses(shipped(f'drop-ins/{source}'), addresses))
     if balancer:
         write(root / 'etc/nginx/sites-enabled/goo-health.conf', with_addresses(shipped('nginx/health.conf'), [*addresses, balancer]))
+        write(root / 'etc/goo/balancer.conf', with_addresses(shipped('nginx/balancer.conf'), [*addresses, balancer]))
 
 
 def replica_words(at, addresses):

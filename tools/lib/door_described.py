@@ -59,7 +59,7 @@ def fault(document, method, path, answer):
     return None
 
 
-def check(tally, what, document, method, path, status, answer, kind='text/html'):
+def check(tally, what, document, method, path, status, answer, kind='application/json'):
     """One answer: its status, its kind, and that it is described."""
     MET.add(answer[0])
     why = fault(document, method, path, answer) if answer[0] == status and answer[1]['Content-Type'].split(';')[0] == kind else (answer[0], answer[1]['Content-Type'], answer[2][:200])
@@ -132,16 +132,17 @@ def of_the_door(tally):
                 ('an account that is not there', REGISTRY, ('GET', '/v1/accounts/9/statement'), 404, 'text/plain', place.ask('office', 'GET', '/v1/accounts/9/statement')),
                 ('another method', REGISTRY, statement, 405, 'text/plain', place.ask('office', 'POST', '/v1/accounts/1/statement', '{}')),
                 ("another's statement", REGISTRY, statement, 403, 'text/plain', place.ask('bela', *statement)),
-                ('nobody signed in', REGISTRY, requests, 401, 'text/html', place.ask(None, *requests, add)),
-                ('a wrong password', REGISTRY, statement, 401, 'text/html', place.ask('anna', *statement, password='wrong')),
-                ('nobody signed in, for the records', RECORDS, acts, 401, 'text/html', place.ask(None, *acts)),
-                ('a page of another origin', REGISTRY, requests, 403, 'text/html', place.ask('office', *requests, add, Origin='https://evil.example')),
+                ('nobody signed in', REGISTRY, requests, 401, 'application/json', place.ask(None, *requests, add)),
+                ('a wrong password', REGISTRY, statement, 401, 'application/json', place.ask('anna', *statement, password='wrong')),
+                ('nobody signed in, for the records', RECORDS, acts, 401, 'application/json', place.ask(None, *acts)),
+                ('a page of another origin', REGISTRY, requests, 403, 'application/json', place.ask('office', *requests, add, Origin='https://evil.example')),
                 ('a role that only reads', REGISTRY, requests, 403, 'application/json', place.ask('auditor', *requests, add)),
                 ('a role that only declares', REGISTRY, statement, 403, 'application/json', place.ask('meters', *statement)),
                 ('the same, for the records', RECORDS, acts, 403, 'application/json', place.ask('meters', *acts)),
-                ('a body above the limit', REGISTRY, requests, 413, 'text/html', place.ask('office', *requests, 'x' * 1048577)),
-                ('a head above the limit', REGISTRY, statement, 400, 'text/html', place.ask('anna', *statement, X_Long='y' * 9000)),
-                ('an unknown transfer encoding', REGISTRY, requests, 501, 'text/html', sent(
+                ('a body above the limit', REGISTRY, requests, 413, 'application/json', place.ask('office', *requests, 'x' * 1048577)),
+                ("a holder's body above his limit", REGISTRY, requests, 413, 'application/json', place.ask('anna', *requests, 'x' * 65537)),
+                ('a head above the limit', REGISTRY, statement, 400, 'application/json', place.ask('anna', *statement, X_Long='y' * 9000)),
+                ('an unknown transfer encoding', REGISTRY, requests, 501, 'application/json', sent(
                     place, f"POST /v1/requests HTTP/1.1\r\nHost: localhost\r\nAuthorization: Basic {basic('office', USERS['office'][1])}\r\nTransfer-Encoding: braille\r\nConnection: close\r\n\r\n"))):
             check(tally, what, document, method, path, status, answer, kind)
         routes(tally, place)

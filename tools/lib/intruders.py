@@ -265,10 +265,7 @@ def spoken_for(tally):
     """Names of certificates."""
     with Place(rate=200, certificates=True) as place:
         for subject, file in (('/O=Trial/CN=OFFICE', 'a'), ('/O=TRIAL/CN=office', 'b'), ('/O=Trial/CN=office/CN=anna', 'c')):
-            place.certificate(['ec', '-pkeyopt', 'ec_paramgen_curve:prime256v1'], subject, place.dir / f'{file}.key', place.dir / f'{file}.pem')
-            with open(place.etc / 'tls/clients-ca.pem', 'a') as trusted:
-                trusted.write((place.dir / f'{file}.pem').read_text())
-        reload(place)
+            place.issue(subject, file)
         for subject, file in (('CN=OFFICE,O=Trial', 'a'), ('CN=office,O=TRIAL', 'b'), ('CN=anna,CN=office,O=Trial', 'c')):
             s, _, t = place.ask(None, 'GET', '/v1/audit', certificate=file)
             tally.check(f"a certificate for {subject} is nobody's: 403", s == 403, (s, t))
@@ -500,7 +497,7 @@ def rotates(tally, place):
 
 def killed(tally):
     """nginx that was killed leaves the desk's socket behind, and starts again by what its unit does before."""
-    command = re.search(r'(?m)^ExecStartPre=-(.*desk.sock)$', (HOME / 'deploy/nginx/nginx.service.conf').read_text())[1]
+    command = re.search(r'(?m)^ExecStartPre=-(.*\.sock)$', (HOME / 'deploy/nginx/nginx.service.conf').read_text())[1]
     with Place(rate=200) as place:
         for pid in (place.nginx.pid, *workers(place)):
             os.kill(pid, signal.SIGKILL)

@@ -236,8 +236,9 @@ class House:
         return current.is_symlink() and current.lstat().st_mtime >= begun - 0.01
 
     def clear_desk(self) -> None:
-        """A killed nginx leaves its inner socket behind; its unit removes it before a start."""
-        (self.folder / 'desk.sock').unlink(missing_ok=True)
+        """A killed nginx leaves its inner sockets behind; its unit removes them before a start."""
+        for name in ('desk.sock', 'sign-in.sock'):
+            (self.folder / name).unlink(missing_ok=True)
 
     # ---------------------------------------------------------------- parts
 

@@ -1,0 +1,457 @@
+"""The front door: who gets in, what a sign-in costs, how much a user may send, nginx's answers."""
+import json
+import subprocess
+import time
+from collections.abc import Iterator
+
+import pytest
+
+import client
+import intruders
+from front import FAST
+from front import FEW_COMPARISONS
+from front import REQUESTS
+from front import STRANGER
+from front import Standin
+from front import VISITOR
+from front import answer_of
+from front import ask
+from front import at_once
+from front import lines_of_log
+from front import one_a_minute
+from front import request
+from front import sent
+from loopback import Place
+
+
+@pytest.fixture(scope='module')
+def place() -> Iterator[Place]:
+    """A front door without limits by the second, for all tests that change nothing of it."""
+    with Place(rate=FAST, cost=4) as made:
+        intruders.post(
+            made, 'office', command='open_holder', key='a1', holder='SUN', name='Sun Power'
+        )
+        yield made
+
+
+# ------------------------------------------------------------------ how nginx itself answers
+
+LONG = b'y' * 9000
+BY_ITSELF = {
+    'nobody signed in': (
+        b'GET /v1/audit HTTP/1.1\r\nHost: localhost\r\nConnection: close\r\n\r\n',
+        401,
+    ),
+    'nobody, at the page': (b'GET / HTTP/1.1\r\nHost: localhost\r\nConnection: close\r\n\r\n', 401),
+    'no HTTP': (b'garbage\r\n\r\n', 400),
+    'a long target': (
+        b'GET /' + LONG + b' HTTP/1.1\r\nHost: localhost\r\nConnection: close\r\n\r\n',
+        400,
+    ),
+    'a long head': (
+        b'GET / HTTP/1.1\r\nHost: localhost\r\nX: ' + LONG + b'\r\nConnection: close\r\n\r\n',
+        400,
+    ),
+    'two hosts': (
+        b'GET / HTTP/1.1\r\nHost: localhost\r\nHost: localhost\r\nConnection: close\r\n\r\n',
+        400,
+    ),
+    'another name': (b'GET / HTTP/1.1\r\nHost: evil.example\r\nConnection: close\r\n\r\n', 421),
+    'a coding that is none': (
+        b'GET / HTTP/1.1\r\nHost: localhost\r\nTransfer-Encoding: odd\r\nConnection: close\r\n\r\n',
+        501,
+    ),
+    'no such file': (request('GET', '/none.css', 'anna'), 404),
+    'a method that files have not': (request('POST', '/style.css', body=b'x'), 405),
+    'a foreign page': (
+        request('POST', REQUESTS, 'anna', body=b'{}', Origin='https://evil.example'),
+        403,
+    ),
+    'a write to the records': (request('POST', '/records/v1/acts', 'anna', body=b'{}'), 403),
+    'a body above all': (request('POST', REQUESTS, 'office', body=b'x' * 1048577), 413),
+    'a user without a role': (request('GET', '/records/v1/acts', 'nemo'), 403),
+    'bytes that are no UTF-8': (
+        b'GET /\xff HTTP/1.1\r\nHost: localhost\r\nConnection: close\r\n\r\n',
+        400,
+    ),
+}
+
+
+@pytest.mark.parametrize('what', BY_ITSELF)
+def test_nginx_answers_json(place: Place, what: str) -> None:
+    text, status = BY_ITSELF[what]
+    answer = sent(place, text)
+    assert answer.status == status
+    assert answer.error()
+
+
+@pytest.mark.parametrize(
+    'text',
+    [
+        b'garbage\r\n\r\n',
+        b'GET /v1/audit HTTP/1.1\r\nHost: evil.example\r\nConnection: close\r\n\r\n',
+    ],
+)
+def test_nginx_answers_json_without_tls(place: Place, text: bytes) -> None:
+    assert sent(place, text, port=place.plain, tls=False).error()
+    assert (
+        sent(place, text.replace(b'evil.example', b'localhost'), tls=False)
+        .error()
+        .startswith('this is no request that can be read')
+    )
+
+
+def test_registry_down_is_json() -> None:
+    with Place(rate=FAST, cost=4) as place:
+        place.stop_registry()
+        answer = ask(place, 'GET', '/v1/audit', 'office')
+        place.start_registry()
+    assert (answer.status, 'again' in answer.error()) == (502, True)
+
+
+LIMITS = {
+    'address': (one_a_minute('zone=goo_rate:10m', 'goo_rate', '20r/s', 60, 1), '/v1/audit', 'anna'),
+    'user': (
+        one_a_minute('zone=goo_user:2m     ', 'goo_user', '20r/s', 60, 1),
+        '/v1/certificates/1',
+        'anna',
+    ),
+    'records': (
+        one_a_minute('zone=goo_user:2m     ', 'goo_user', '20r/s', 60, 1),
+        '/records/v1/acts',
+        'anna',
+    ),
+    'public': (
+        one_a_minute('zone=goo_verify:2m', 'goo_verify', '10r/m', 10, 1),
+        '/verify?number=1',
+        '',
+    ),
+    'files': (one_a_minute('zone=goo_files:10m', 'goo_files', '10r/s', 300, 1), '/style.css', ''),
+}
+
+
+@pytest.mark.parametrize('limit', LIMITS)
+def test_too_often(limit: str) -> None:
+    changes, path, user = LIMITS[limit]
+    with Place(changes=changes, cost=4) as place:
+        got = [ask(place, 'GET', path, user) for _ in range(4)]
+    over = [answer for answer in got if answer.status == 429]
+    assert len(over) == 2 and got[0].status != 429
+    assert all(answer.error() and answer.head.get_all('Retry-After') == ['6'] for answer in over)
+
+
+def test_wait_that_the_log_asks_for_is_told_once() -> None:
+    with Place(rate=FAST, cost=4) as place:
+        log = Standin(
+            place.dir / 'door.sock',
+            answer_of('429 Too Many Requests', 'Retry-After: 777', body=b'{"error":"a day"}\n'),
+        )
+        log.may_answer.set()
+        answer = ask(place, 'POST', REQUESTS, 'anna', body=b'{}')
+    assert (answer.status, answer.error(), answer.head.get_all('Retry-After')) == (
+        429,
+        'a day',
+        ['777'],
+    )
+
+
+# ------------------------------------------------------------------ what one request may be
+
+
+def test_size_of_a_request(place: Place) -> None:
+    before = len(place.relay.heads)
+    got = [
+        ask(place, 'POST', REQUESTS, user, body=b' ' * size)
+        for user, size in (
+            ('anna', 65536),
+            ('anna', 65537),
+            ('anna', 1048576),
+            ('office', 1048576),
+            ('office', 1048577),
+        )
+    ]
+    assert [answer.status for answer in got] == [400, 413, 413, 400, 413]
+    assert [answer.error() for answer in got if answer.status == 413] == [
+        'a request has 65,536 bytes at most',
+        'a request has 65,536 bytes at most',
+        'a body has 1,048,576 bytes at most',
+    ]
+    assert len(place.relay.heads) == before + 2
+
+
+@pytest.mark.parametrize('size', [65536, 65537, 99999, 100000, 1000000])
+def test_size_of_a_request_in_chunks(place: Place, size: int) -> None:
+    head = request('POST', REQUESTS, 'anna', Transfer_Encoding='chunked')
+    answer = sent(place, head + f'{size:x}\r\n'.encode() + b' ' * size + b'\r\n0\r\n\r\n')
+    assert answer.status == (400 if size == 65536 else 413)
+
+
+def test_large_bodies_are_refused_as_often_as_they_come(place: Place) -> None:
+    got = {ask(place, 'POST', REQUESTS, 'anna', body=b'x' * 1048576).status for _ in range(20)}
+    assert got == {413}
+
+
+def test_few_large_requests_under_way() -> None:
+    with Place(rate=FAST, cost=4) as place:
+        log = Standin(place.dir / 'door.sock', answer_of('200 OK'))
+        large = at_once(
+            [lambda: ask(place, 'POST', REQUESTS, 'office', body=b' ' * 65537) for _ in range(5)]
+        )
+        small = at_once(
+            [lambda: ask(place, 'POST', REQUESTS, 'office', body=b' ' * 65536) for _ in range(5)]
+        )
+        assert client.comes(
+            lambda: sum(answer is not None for answer in large) == 3 and len(log.heads) == 7, 30
+        )
+        assert [answer for answer in small if answer is not None] == []
+        log.may_answer.set()
+        assert client.comes(lambda: None not in [*large, *small], 30)
+    assert sorted(answer.status for answer in large if answer) == [200, 200, 429, 429, 429]
+    assert {answer.status for answer in small if answer} == {200}
+
+
+def test_two_questions_to_the_records_under_way() -> None:
+    with Place(rate=FAST, cost=4) as place:
+        records = Standin(place.dir / 'web.sock', answer_of('200 OK'))
+        anna = at_once([lambda: ask(place, 'GET', '/records/v1/acts', 'anna') for _ in range(4)])
+        assert client.comes(
+            lambda: sum(answer is not None for answer in anna) == 2 and len(records.heads) == 2, 30
+        )
+        bela = at_once([lambda: ask(place, 'GET', '/records/v1/acts', 'bela')])
+        assert client.comes(lambda: len(records.heads) == 3, 30)
+        records.may_answer.set()
+        assert client.comes(lambda: None not in [*anna, *bela], 30)
+        assert ask(place, 'GET', '/records/v1/acts', 'anna').status == 200
+    assert sorted(answer.status for answer in anna if answer) == [200, 200, 429, 429]
+    assert bela[0] and bela[0].status == 200
+
+
+# ------------------------------------------------------------------ what a sign-in costs
+
+SHORT = ('proxy_cache_valid     204 30s', 'proxy_cache_valid     204 1s')
+
+
+def statuses(
+    place: Place, count: int, user: str, password: str = '', source: str = '127.0.0.1'
+) -> list[int]:
+    """How so many reads of a user are answered, one after another."""
+    return [
+        ask(place, 'GET', '/v1/certificates/1', user, password, source=source).status
+        for _ in range(count)
+    ]
+
+
+def test_right_password_is_compared_once() -> None:
+    """Each comparison counts, and there may be three: so twenty requests made one."""
+    with Place(changes=FEW_COMPARISONS, cost=4) as place:
+        assert statuses(place, 20, 'anna') == [404] * 20
+        assert statuses(place, 20, 'bela') == [404] * 20
+        assert {line['user'] for line in lines_of_log(place)} == {'anna', 'bela'}
+        assert {line['caller'] for line in lines_of_log(place)} == {'SUN', 'VOLT'}
+
+
+def test_wrong_passwords_have_a_limit_of_their_own() -> None:
+    with Place(changes=FEW_COMPARISONS, cost=4) as place:
+        got = [
+            ask(place, 'GET', '/', user, 'wrong', source=STRANGER)
+            for user in ('anna', 'anna', 'nobody', 'nobody', 'anna')
+        ]
+        assert [answer.status for answer in got] == [401, 401, 401, 429, 429]
+        assert [answer.head['Retry-After'] for answer in got] == [None, None, None, '6', '6']
+        assert 'passwords' in got[-1].error() and got[-1].head['GOO-Signed-In'] is None
+        assert statuses(place, 3, 'anna', source=VISITOR) == [404] * 3
+
+
+def test_guessing_shuts_out_nobody_who_signed_in_there() -> None:
+    """A password that was right is right for longer where no more may be compared."""
+    with Place(changes=(*FEW_COMPARISONS, SHORT), cost=4) as place:
+        assert statuses(place, 1, 'anna') == [404]
+        assert statuses(place, 4, 'bela', 'wrong') == [401, 401, 429, 429]
+        time.sleep(2.1)
+        assert statuses(place, 3, 'anna') == [404] * 3
+        assert statuses(place, 1, 'bela') == [429]
+        subprocess.run(
+            ['htpasswd', '-bB', '-C', '4', place.etc / 'users', 'anna', 'pw-other'],
+            check=True,
+            capture_output=True,
+        )
+        assert statuses(place, 1, 'anna') == [429]
+
+
+def test_password_is_compared_again_after_its_time() -> None:
+    with Place(changes=(*FEW_COMPARISONS, SHORT), cost=4) as place:
+        for _ in range(3):
+            assert statuses(place, 2, 'anna') == [404] * 2
+            time.sleep(2.1)
+        assert statuses(place, 1, 'bela') == [429]
+
+
+def change_password(place: Place, *words: str) -> None:
+    """A run of htpasswd over the file of a place, at a second that no earlier one had."""
+    time.sleep(1.1)
+    subprocess.run(
+        ['htpasswd', *words[:-2], place.etc / 'users', *words[-2:]]
+        if words[0] != '-D'
+        else ['htpasswd', '-D', place.etc / 'users', words[1]],
+        check=True,
+        capture_output=True,
+    )
+
+
+def test_user_taken_out_is_refused_at_once() -> None:
+    with Place(rate=FAST, cost=4) as place:
+        assert statuses(place, 2, 'anna') + statuses(place, 2, 'bela') == [404] * 4
+        change_password(place, '-D', 'anna')
+        assert statuses(place, 2, 'anna') + statuses(place, 1, 'bela') == [401, 401, 404]
+
+
+def test_changed_password_holds_at_once() -> None:
+    with Place(rate=FAST, cost=4) as place:
+        assert statuses(place, 2, 'anna') == [404] * 2
+        change_password(place, '-bB', '-C', '4', 'anna', 'pw-other')
+        assert statuses(place, 2, 'anna') + statuses(place, 2, 'anna', 'pw-other') == [
+            401,
+            401,
+            404,
+            404,
+        ]
+
+
+def test_line_taken_out_of_the_list_holds_with_the_reload() -> None:
+    with Place(rate=FAST, cost=4) as place:
+        before = len(place.relay.heads)
+        assert statuses(place, 1, 'anna') == [404]
+        listed = (place.etc / 'callers').read_text()
+        (place.etc / 'callers').write_text(listed.replace('anna SUN\n', ''))
+        intruders.callers(place)
+        intruders.reload(place)
+        assert statuses(place, 1, 'anna') == [403]
+        assert len(place.relay.heads) == before + 1
+
+
+def test_kept_sign_ins_are_for_nginx_alone(place: Place) -> None:
+    statuses(place, 1, 'anna')
+    kept = [path for path in (place.dir / 'signed-in').rglob('*') if path.is_file()]
+    assert kept
+    assert {
+        oct(path.stat().st_mode & 0o777)
+        for path in (place.dir / 'signed-in', *(path.parent for path in kept))
+    } == {'0o700'}
+    assert {oct(path.stat().st_mode & 0o777) for path in kept} == {'0o600'}
+
+
+def test_file_of_passwords_is_shown_to_nobody(place: Place) -> None:
+    """Not even where what stands behind nginx asks for it by X-Accel-Redirect."""
+    with Place(rate=FAST, cost=4) as own:
+        for name, path in (('door.sock', '/v1/certificates/1'), ('web.sock', '/records/v1/acts')):
+            behind = Standin(
+                own.dir / name, answer_of('200 OK', 'X-Accel-Redirect: /users', body=b'{"own":1}\n')
+            )
+            behind.may_answer.set()
+            assert ask(own, 'GET', path, 'anna').body == b'{"own":1}\n'
+    for path in ('/users', '/compare', '/sign-in', '/decoy', '/told'):
+        assert ask(place, 'GET', path, 'anna').status == 404
+
+
+# ------------------------------------------------------------------ whom a browser speaks for
+
+
+def test_signing_out_is_asked_for_by_our_own_page_alone(place: Place) -> None:
+    own = f'https://localhost:{place.port}'
+    host = {'Host': f'localhost:{place.port}'}
+    refused = [
+        ask(place, 'GET', '/sign-out', 'anna'),
+        ask(place, 'HEAD', '/sign-out', 'anna'),
+        ask(place, 'POST', '/sign-out', 'anna', Origin='https://evil.example'),
+        ask(place, 'POST', '/sign-out', 'anna', Sec_Fetch_Site='cross-site'),
+        ask(place, 'POST', '/sign-out', 'anna', Sec_Fetch_Site='same-site'),
+    ]
+    assert [(answer.status, answer.head['Clear-Site-Data']) for answer in refused] == [
+        (403, None)
+    ] * 5
+    text = request('POST', '/sign-out', 'anna', Origin=own, Sec_Fetch_Site='same-origin')
+    answer = sent(place, text.replace(b'Host: localhost', f'Host: {host["Host"]}'.encode()))
+    assert (answer.status, answer.head['Clear-Site-Data'], answer.head['GOO-Kept']) == (
+        204,
+        '"cookies"',
+        'password',
+    )
+
+
+@pytest.mark.parametrize('path', ['/v1/certificates/1', '/records/v1/acts'])
+def test_foreign_page_asks_nothing(place: Place, path: str) -> None:
+    got = {
+        site: ask(place, 'GET', path, 'anna', Sec_Fetch_Site=site).status
+        for site in ('cross-site', 'same-site', 'same-origin', 'none', 'odd')
+    }
+    assert got == {'cross-site': 403, 'same-site': 403, 'same-origin': 404, 'none': 404, 'odd': 403}
+
+
+def test_revoked_certificate_signs_in_no_more() -> None:
+    with Place(rate=FAST, certificates=True, cost=4) as place:
+        assert place.ask(None, 'GET', '/v1/certificates/1', certificate='anna')[0] == 404
+        place.revoke('anna')
+        intruders.reload(place)
+        status, head, text = place.ask(None, 'GET', '/v1/certificates/1', certificate='anna')
+        assert (status, head['Content-Type'], 'certificate' in json.loads(text)['error']) == (
+            400,
+            'application/json',
+            True,
+        )
+        assert place.ask(None, 'GET', '/v1/certificates/1', certificate='bela')[0] == 404
+        assert place.ask(None, 'GET', '/v1/certificates/1')[0] == 400
+
+
+def test_no_role_is_the_least(place: Place) -> None:
+    before = len(place.relay.heads), len(place.records.heads)
+    got = [
+        ask(place, method, path, user, body=b'{}' if method == 'POST' else b'').status
+        for user in ('nemo', 'registry09')
+        for method, path in (
+            ('GET', '/v1/audit'),
+            ('POST', REQUESTS),
+            ('POST', '/v1/declarations'),
+            ('GET', '/records/v1/acts'),
+        )
+    ]
+    assert got == [403] * 8
+    assert (len(place.relay.heads), len(place.records.heads)) == before
+
+
+# ------------------------------------------------------------------ the log
+
+
+LETTERS = b'\xc3\xa9', b'\xe2\x82\xac', b'\xf0\x9f\x8c\x9e'
+NO_LETTERS = b'\xe2\x82', b'\xed\xa0\x80', b'\xf8\x88', b'\xc0\xaf'
+"""One that is cut off, half of a pair, one that is too long, and another spelling of a slash."""
+END = b' HTTP/1.1\r\nHost: localhost\r\nConnection: close\r\n\r\n'
+
+
+def test_each_line_of_the_log_is_json() -> None:
+    every = [bytes([byte]) for byte in range(1, 256) if byte not in b'\r\n #?']
+    texts = [*every, *LETTERS, *NO_LETTERS]
+    with Place(rate=FAST, cost=4) as place:
+        for text in texts:
+            sent(place, b'GET /v1/' + text + b'/x' + END)
+        client.ask(place.plain, b'GET /x?y=\xff' + END)
+        count = len(texts) + 1
+        log = place.dir / 'front-door.log'
+        client.comes(lambda: log.read_bytes().count(b'\n') == count, 10)
+        routes = [line['route'] for line in lines_of_log(place)]
+    assert len(routes) == count
+    after = len(every)
+    assert routes[after:] == [
+        *(f'/v1/{text.decode()}/x' for text in LETTERS),
+        *('/v1/\ufffd' for _ in NO_LETTERS),
+        '/x?y=\ufffd',
+    ]
+
+
+def test_method_is_logged_as_it_was_sent(place: Place) -> None:
+    sent(place, request('POST', '/v1/audit', 'anna', body=b'{}', X_Long='y' * 9000))
+    ask(place, 'POST', '/v1/audit', 'anna', 'wrong', body=b'{}')
+    client.comes(lambda: lines_of_log(place)[-1]['status'] == '401', 10)
+    assert [(line['method'], line['status']) for line in lines_of_log(place)[-2:]] == [
+        ('POST', '400'),
+        ('POST', '401'),
+    ]
