@@ -9,6 +9,8 @@ import entries
 
 SIZE = 16 << 20                 # bytes after which a new file is begun
 ROOM = 4 << 20                  # bytes that have to be free again after the disk was full
+SHORT = 64 << 10                # bytes of the end of a log that are read again and again
+CREATED = os.O_WRONLY | os.O_APPEND | os.O_CREAT | os.O_NOFOLLOW
 Point = collections.namedtuple("Point", "n h version")          # an end of the log: entry n, its hash, and the version after it
 
 
@@ -25,9 +27,28 @@ def after(entry, line):
     return Point(entry.n, entries.hash_of(line), entry.body.decode() if entry.method == "VERSION" else entry.version)
 
 
-def whole_line(line):
-    entries.read_entry(line)
-    return line
+def line_read(key):
+    """Reads a line of the log as its end: a Point, and the hash of the entry before. With a key its keyed hash is checked."""
+    def read(line):
+        entry = entries.read_entry(line, key)
+        return after(entry, line), entry.prev
+    return read
+
+
+def follows(before, now):
+    """Raises Broken unless a line of the log follows the one before it."""
+    if before and (now[0].n, now[1]) != (before[0].n + 1, before[0].h):
+        raise entries.Broken(f"entry {now[0].n} does not follow entry {before[0].n}")
+
+
+def locked(folder):
+    """The folder of a log, opened and locked until this process ends."""
+    lock = os.open(folder, os.O_RDONLY)
+    try:
+        fcntl.flock(lock, fcntl.LOCK_EX | fcntl.LOCK_NB)
+    except OSError as fault:
+        raise entries.Broken(f"{folder}: another program has this log open") from fault
+    return lock
 
 
 class FileStore:
@@ -39,24 +60,28 @@ class FileStore:
 
     def __init__(self, folder, key, applied=0):
         self.folder, self.key = pathlib.Path(folder), key
-        self.lock = os.open(folder, os.O_RDONLY)
-        fcntl.flock(self.lock, fcntl.LOCK_EX | fcntl.LOCK_NB)
+        self.lock = locked(folder)                  # before anything is cut: a line that another program just writes would look cut off
         self.full = False
+        try:
+            self.last = self.mended_end()
+            if self.last.n < applied:
+                raise entries.Broken(f"{folder}: the log ends at entry {self.last.n} and the registry has applied entry {applied}")
+            self.open(self.files()[-1])
+        except (entries.Broken, OSError):
+            os.close(self.lock)
+            raise
+
+    def mended_end(self):
         for path in reversed(self.files()):
-            if line := entries.mended(path, whole_line):
-                break
-        else:
-            raise entries.Broken(f"{folder}: there is no log; `replica-log found` begins one")
-        self.last = after(entries.read_entry(line, key), line)
-        if self.last.n < applied:
-            raise entries.Broken(f"{folder}: the log ends at entry {self.last.n} and the registry has applied entry {applied}")
-        self.open(self.files()[-1])
+            if found := entries.mended(path, line_read(self.key), follows):
+                return found[0]
+        raise entries.Broken(f"{self.folder}: there is no log; `replica-log found` begins one")
 
     def files(self):
         return sorted(self.folder.glob("*.jsonl"))
 
     def open(self, path):
-        self.file = os.open(path, os.O_WRONLY | os.O_APPEND | os.O_CREAT, 0o640)
+        self.file = os.open(path, CREATED, 0o640)
         os.fsync(self.file)                     # what is there may be applied only once it is on the disk
         entries.sync_folder(self.folder)
 
@@ -102,13 +127,22 @@ class FileStore:
     def put(self, lines):
         """An error of the sync itself ends the replica: nobody knows then what is on the disk. The next start reads it."""
         if os.fstat(self.file).st_size > SIZE:
-            os.close(self.file)
-            self.open(self.folder / f"{self.last.n + 1:020}.jsonl")
+            self.turn_to(self.folder / f"{self.last.n + 1:020}.jsonl")
         try:
             entries.write_all(self.file, b"".join(line + b"\n" for line in lines))
         except OSError as fault:
             raise NoRoom(str(fault)) from fault
         os.fdatasync(self.file)
+
+    def turn_to(self, path):
+        """The next file; where there is no room for it, the one before stays."""
+        before = self.file
+        try:
+            os.close(os.open(path, CREATED, 0o640))
+        except OSError as fault:
+            raise NoRoom(str(fault)) from fault
+        self.open(path)
+        os.close(before)
 
     async def lines_from(self, n):
         """Entries from n on, the first of perhaps many."""
@@ -149,8 +183,8 @@ class ShippedLog(FileStore):
         if not files:
             raise entries.Broken(f"{self.folder}: no log has come here")
         seen = (files[-1].name, files[-1].stat().st_size)
-        if seen != self.seen and (line := entries.last_of(files[-1], whole_line)[0]):
-            self.last, self.seen = after(entries.read_entry(line, self.key), line), seen
+        if seen != self.seen and (found := entries.last_of(files[-1], line_read(self.key), follows, SHORT)[0]):
+            self.last, self.seen = found[0], seen
 
     async def lines_from(self, n):
         self.look()
@@ -179,7 +213,7 @@ def read_lines(folder, n, most=500):
 def last_number(folder):
     """The number of the last whole entry of a log that another program may be writing."""
     for path in sorted(pathlib.Path(folder).glob("*.jsonl"), reverse=True):
-        if (n := entries.last_of(path, entries.number_in)[0]) is not None:
+        if (n := entries.last_of(path, entries.number_in, size=SHORT)[0]) is not None:
             return n
     return 0
 

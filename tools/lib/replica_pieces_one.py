@@ -67,7 +67,8 @@ def entry_form(cluster, work):
     lost = []
     for at in range(0, len(whole), 11):
         last.write_bytes(whole[:at])
-        told, mended = [one.entry.n for one in entries.read_archive(folder)], entries.Archive(folder).last.entry.n
+        with contextlib.redirect_stderr(None):
+            told, mended = [one.entry.n for one in entries.read_archive(folder)], entries.Archive(folder).last.entry.n
         lost += [at] if told[-1] != mended or mended != 5 + whole[:at].count(b"\n") or last.read_bytes() != whole[:whole[:at].rfind(b"\n") + 1] else []
     check("cut off at each place, it ends with its last whole line", not lost, lost)
 

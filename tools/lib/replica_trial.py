@@ -638,9 +638,9 @@ def tear(host, chance):
 
 
 def cut_end(path, at, chance):
-    """A file loses its end; by chance some of it is bytes that nobody wrote."""
+    """A file loses its end; by chance some of it is bytes that nobody wrote, and no line end among them: a whole line that is none is damage, which a replica refuses."""
     text = path.read_bytes()
-    junk = bytes(chance.randrange(256) for _ in range(min(len(text) - at, chance.choice((0, 0, 1, 30, 4096)))))
+    junk = bytes(chance.randrange(256) for _ in range(min(len(text) - at, chance.choice((0, 0, 30, 4096))))).replace(b"\n", b"\0")
     path.write_bytes(text[:at] + junk)
     return len(text) - at
 

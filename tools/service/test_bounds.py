@@ -1,4 +1,4 @@
-"""What deploy/bounds.py lets into the log: each bound at its edge, and what a body costs to read."""
+"""What deploy/bounds.py lets into the log: each bound at its edge, and what reading costs."""
 import csv
 import datetime
 import io
