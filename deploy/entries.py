@@ -103,14 +103,21 @@ def body_of(name, said):
     return base64.b64decode(said, validate=True) if name == 'body64' else said.encode()
 
 
+AROUND = len('{"entry":,"mac":""}') + 64                # bytes of a line around the text of its entry
 FIELDS = list(Entry._fields)
 FORM = '{"n":%d,' + ','.join([f'"{name}":%s' for name in FIELDS[1:-1]]) + ',%s}'
 
 
-def written(entry, key):
-    """The line of an entry, without its line end."""
-    text = (FORM % (entry.n, *map(quoted, entry[1:-1]), body_member(entry.body))).encode()
+def written(entry, key, member=''):
+    """The line of an entry, without its line end. `member` is what `body_member` makes of the body, where that is known."""
+    text = (FORM % (entry.n, *map(quoted, entry[1:-1]), member or body_member(entry.body))).encode()
     return b'{"entry":' + text + b',"mac":"' + mac(text, key).encode() + b'"}'
+
+
+def length(entry, member):
+    """The bytes of an entry's line, without its line end."""
+    head = FORM % (entry.n, *map(quoted, entry[1:-1]), '')
+    return len(head.encode()) + len(member.encode()) + AROUND
 
 
 @functools.lru_cache(4)

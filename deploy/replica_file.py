@@ -18,6 +18,14 @@ class NoAnswer(Exception):
     """The store said nothing definite: what was asked may have happened, or may still."""
 
 
+class Denied(NoAnswer):
+    """The store will not do what was asked, now or later. `is_large`: it is too large. `is_sure`: no earlier try of it was left without an answer."""
+
+    def __init__(self, why, is_large=False, is_sure=True):
+        super().__init__(why)
+        self.is_large, self.is_sure = is_large, is_sure
+
+
 class NoRoom(Exception):
     """The disk is full, and nothing was added."""
 
@@ -52,9 +60,10 @@ def locked(folder):
 
 
 class FileStore:
-    """The interface that both stores have: `last`, `end`, `turn`, `append`, `lines_from`, `lacks`, `is_aside`, `report`, `prune`, `trouble`, `figures`, `tasks`."""
+    """The interface that both stores have: `last`, `most`, `cost`, `end`, `turn`, `append`, `lines_from`, `lacks`, `is_aside`, `report`, `prune`, `trouble`, `figures`, `tasks`."""
 
     compares = False                            # there are no other replicas
+    most = 1200000                              # bytes of one append; a longer line is one by itself
     quorum = tells = at_once = True             # it always answers, the replica hears of each entry as it is appended, and `add` appends within one call
     ahead = 16                                  # entries that wait to be applied when the next append begins
 
@@ -110,6 +119,10 @@ class FileStore:
             disk = os.statvfs(self.folder)
             self.full = disk.f_bavail * disk.f_frsize < ROOM
         return "the disk of the log is full" if self.full else ""
+
+    def cost(self, size):
+        """What a line of so many bytes is of `most`."""
+        return size + 1
 
     async def append(self, lines, end, last, wanted):
         return self.add(lines, end, last)
@@ -197,15 +210,16 @@ class ShippedLog(FileStore):
         """Who sends the log decides how much of it stays here."""
 
 
-def read_lines(folder, n, most=500):
-    """Lines of the log from entry n on; none where the log does not go back so far."""
+def read_lines(folder, n, most=500, room=8 << 20):
+    """Lines of the log from entry n on, so many and so many bytes at most, and one at least; none where the log does not go back so far."""
     files = sorted(pathlib.Path(folder).glob("*.jsonl"))
     found = []
     for path in [file for file in files if int(file.stem) <= n][-1:] + [file for file in files if int(file.stem) > n]:
         for line, _ in entries.lines(path):
             if entries.number_in(line) == n + len(found):
                 found.append(line)
-            if len(found) == most:
+                room -= len(line)
+            if len(found) == most or room <= 0:
                 return found
     return found
 
