@@ -7,6 +7,7 @@ entry before. Its own hash is the SHA-256 of that line without the line end. `ma
 Every line is in one form: members in the order written here, no spaces, UTF-8. So the same entry has one text and one hash.
 """
 import base64
+import collections
 import datetime
 import functools
 import gzip
@@ -16,14 +17,17 @@ import json
 import os
 import pathlib
 import re
+import sys
 import time
 import typing
+import zlib
 
 MONTH = re.compile(r'\d{4}-\d{2}\.jsonl(\.gz)?')
 NO_CHAIN = '-'                          # the chain of outcomes before entry 1
 PLAIN = ('/v1/requests', 200)           # the route and the status of a request that was accepted, or repeated
 SHORT = 4096                            # bytes of a body that is text whatever its length in JSON
-TAIL = 8 << 20                          # bytes; no two lines of an archive are as long
+TAIL = 8 << 20                          # bytes of the end of a file that are read at first
+NEAR = 64 << 20                         # bytes of the end of a file in which the last accepted request is looked for
 SET_ASIDE = 500                         # the status of an entry that the registry could not decide; it changed nothing
 
 
@@ -99,14 +103,21 @@ def body_of(name, said):
     return base64.b64decode(said, validate=True) if name == 'body64' else said.encode()
 
 
+AROUND = len('{"entry":,"mac":""}') + 64                # bytes of a line around the text of its entry
 FIELDS = list(Entry._fields)
 FORM = '{"n":%d,' + ','.join([f'"{name}":%s' for name in FIELDS[1:-1]]) + ',%s}'
 
 
-def written(entry, key):
-    """The line of an entry, without its line end."""
-    text = (FORM % (entry.n, *map(quoted, entry[1:-1]), body_member(entry.body))).encode()
+def written(entry, key, member=''):
+    """The line of an entry, without its line end. `member` is what `body_member` makes of the body, where that is known."""
+    text = (FORM % (entry.n, *map(quoted, entry[1:-1]), member or body_member(entry.body))).encode()
     return b'{"entry":' + text + b',"mac":"' + mac(text, key).encode() + b'"}'
+
+
+def length(entry, member):
+    """The bytes of an entry's line, without its line end."""
+    head = FORM % (entry.n, *map(quoted, entry[1:-1]), '')
+    return len(head.encode()) + len(member.encode()) + AROUND
 
 
 @functools.lru_cache(4)
@@ -184,6 +195,7 @@ def archived(line, outcome):
 
 
 OUTCOME = b'","outcome":'
+IS_PLAIN = re.compile(rb'"route":"%b","version":.*","outcome":{"status":%d,' % (PLAIN[0].encode(), PLAIN[1]))       # a quote inside a text is escaped
 
 
 def read_record(line, key=None):
@@ -215,12 +227,15 @@ def lines(path, at=0):
     """The whole lines of a file from an offset on, each with the offset after it. The beginning of a line is left out."""
     opened = gzip.open(path) if path.suffix == '.gz' else open(path, 'rb')
     with opened as file:
-        file.seek(at)
-        for line in file:
-            if not line.endswith(b'\n'):
-                return
-            at += len(line)
-            yield line[:-1], at
+        try:
+            file.seek(at)
+            for line in file:
+                if not line.endswith(b'\n'):
+                    return
+                at += len(line)
+                yield line[:-1], at
+        except (EOFError, gzip.BadGzipFile, zlib.error) as fault:
+            raise Broken(f'{path}: it is damaged behind byte {at} of its text: {fault}') from fault
 
 
 def number_in(line):
@@ -244,17 +259,32 @@ def read_archive(folder, after=0, key=None, follow=False):
     last, path, at = None, None, 0
     while True:
         for path, line, at in whole_lines(folder, after, path, at):
-            n = number_in(line)
-            if n < after:
-                continue
-            record = read_record(line, key)
-            follows(last, record)
+            try:
+                n = number_in(line)
+                if n < after:
+                    continue
+                record = read_record(line, key)
+                follows(last, record)
+            except Broken as fault:
+                said = str(fault)
+                raise Broken(f'{path}: {said}' if said.startswith('entry') or last is None else f'{path}: entry {last.entry.n + 1}: {said}') from fault
             last = record
             if n > after:
                 yield record
         if not follow:
-            return
+            return ended_whole(path, at)
         time.sleep(0.2)
+
+
+def ended_whole(path, at):
+    """Raises Broken where a whole line stands at the end of an archive, and its line end is another byte."""
+    if path is None or path.suffix == '.gz':
+        return
+    with open(path, 'rb') as file:
+        file.seek(at)
+        rest = file.read(NEAR)
+    if is_more_than_a_line(rest):
+        raise Broken(f'{path}: {entry_at(None, rest, iter(()))}, at byte {at}: it has no line end')
 
 
 def whole_lines(folder, after, path, at):
@@ -291,14 +321,17 @@ def follows(before, record):
 # ------------------------------------------------------------------ the archive, as its replica writes it
 
 class Archive:
-    """Adds records. A line is cut off in the middle only by a crash; the next start takes such a line away."""
+    """Adds records. A line is cut off in the middle only by a crash; the next start takes such a line away.
 
-    def __init__(self, folder):
+    Whoever opens it has to know that no other program writes here: a line of the other one would look cut off.
+    """
+
+    def __init__(self, folder, key=None):
         self.folder = pathlib.Path(folder)
         self.folder.mkdir(mode=0o750, parents=True, exist_ok=True)
         self.file, self.month, self.last = None, '', None
         for path in reversed(months(self.folder)):
-            self.last = mended(path)
+            self.last = mended(path, functools.partial(read_record, key=key), follows)
             if self.last:
                 self.month = path.name[:7]
                 break
@@ -307,17 +340,22 @@ class Archive:
         """Adds an entry's line with its outcome; `h` is its hash, where it is known. Not on the disk for certain before `sync`."""
         month = max(self.month, entry.time[:7])         # a clock that goes back does not lead to an older file
         if self.file is None or month != self.month:
-            self.turn(month)
+            self.turn(month)                            # on a full disk it raises, and the file before stays
         write_all(self.file, archived(line, outcome))
         self.last = Record(entry, outcome, h or hash_of(line))
 
     def turn(self, month):
         if self.file is not None:
             os.fdatasync(self.file)
+        file = os.open(self.folder / f'{month}.jsonl', os.O_WRONLY | os.O_APPEND | os.O_CREAT | os.O_NOFOLLOW, 0o640)
+        try:
+            sync_folder(self.folder)
+        except OSError:
+            os.close(file)
+            raise
+        if self.file is not None:
             os.close(self.file)
-        self.month = month
-        self.file = os.open(self.folder / f'{month}.jsonl', os.O_WRONLY | os.O_APPEND | os.O_CREAT, 0o640)
-        sync_folder(self.folder)
+        self.file, self.month = file, month
 
     def sync(self):
         if self.file is not None:
@@ -341,46 +379,91 @@ def sync_folder(folder):
     os.close(file)
 
 
-def mended(path, read=read_record):
-    """What the last whole line of a file is, by `read`. What stands after it goes into a file beside it: a crash cut it off."""
-    last, end = last_of(path, read)
-    if path.suffix != '.gz' and end < path.stat().st_size:
-        with open(path, 'r+b') as file, open(f'{path}.cut', 'ab') as cut:
-            file.seek(end)
-            cut.write(file.read())
-            file.truncate(end)
-            os.fsync(file.fileno())
+def end_of(path, size=TAIL):
+    """The offset from which on the whole lines at the end of a file are read. So many bytes are, or as many more as the last whole line needs."""
+    length = path.stat().st_size
+    with open(path, 'rb') as file:
+        while size < length:
+            file.seek(length - size)
+            rest = file.readline()
+            if file.readline().endswith(b'\n'):
+                return length - size + len(rest)
+            size *= 2
+    return 0
+
+
+def last_of(path, read, follow=lambda before, now: None, size=TAIL):
+    """What the last whole line of a file is, by `read`, and the offset after it; None where there is no whole line.
+
+    Of a long file only the end is read. Each whole line there has to be one by `read`, and to follow the one before by `follow`: both raise Broken.
+    Of a compressed file the last line alone is looked at, since such a file was whole.
+    """
+    if path.suffix == '.gz':
+        at_end = collections.deque(lines(path), 1)
+        return (read(at_end[0][0]), at_end[0][1]) if at_end else (None, 0)
+    last, before, end = None, None, end_of(path, size)
+    following = lines(path, end)
+    for line, at in following:
+        try:
+            now = read(line)
+            follow(last, now)
+        except Broken as fault:
+            raise Broken(f'{path}: {entry_at(before, line, following)}, at byte {end}, is damaged, and nothing was changed: {fault}') from fault
+        last, before, end = now, line, at
+    return last, end
+
+
+def entry_at(before, line, following):
+    """Which entry a damaged line was, by the line before it, or by the line after it, or by what is left of it."""
+    if before is not None:
+        return f'entry {number_in(before) + 1}'
+    after = None if is_more_than_a_line(line) else next(following, None)        # such a line is two, whose line end is another byte
+    try:
+        return f'entry {number_in(after[0]) - 1 if after else number_in(line)}'
+    except Broken:
+        return 'a line'
+
+
+def mended(path, read=read_record, follow=lambda before, now: None):
+    """What the last whole line of a file is, by `read`. The beginning of a line after it is cut off: a crash left it, and nobody was told of it.
+
+    It takes no room on the disk. Nothing else is cut: what is damaged raises Broken, and the file stays as it is.
+    """
+    last, end = last_of(path, read, follow)
+    if path.suffix == '.gz' or end == path.stat().st_size:
+        return last
+    with os.fdopen(os.open(path, os.O_RDWR | os.O_NOFOLLOW), 'r+b') as file:
+        file.seek(end)
+        rest = file.read()
+        if is_more_than_a_line(rest):
+            raise Broken(f'{path}: {entry_at(None, rest, iter(()))}, at byte {end}, is damaged, and nothing was changed: it has no line end')
+        file.truncate(end)
+        os.fsync(file.fileno())
+    print(f'{path}: the beginning of a line, {len(rest)} bytes from byte {end} on, was cut off', file=sys.stderr, flush=True)
     return last
 
 
-def last_of(path, read):
-    """What the last whole line is, and the offset after it. Of a long file only the end is read."""
-    last, begin = None, max(0, path.stat().st_size - TAIL) if path.suffix != '.gz' else 0
-    end = begin
-    for line, at in lines(path, begin):
-        try:
-            last, end = read(line), at
-        except Broken:
-            if last or begin == 0:
-                break
-    if last is None and begin:
-        raise Broken(f'{path}: no whole line in its last {TAIL} bytes')
-    return last, end
+def is_more_than_a_line(rest):
+    """Whether a whole line and then something else than a line end stands here. A crash leaves a part of a line, and never this."""
+    try:
+        return rest[json.JSONDecoder().raw_decode(rest.decode('latin-1'))[1]:][:1] not in (b'', b'\n')
+    except (ValueError, RecursionError):
+        return False
 
 
 def last_plain(folder):
     """The last record of an accepted request near the end of an archive; None where there is none."""
     for path in reversed(months(folder)[-2:]):
-        found = None
-        begin = max(0, path.stat().st_size - TAIL) if path.suffix != '.gz' else 0
-        for line, at in lines(path, begin):
-            try:
-                record = read_record(line)
-            except Broken:
-                continue                            # the rest of a line whose beginning stands before the offset
-            found = record if (record.entry.route, record.outcome.status) == PLAIN else found
-        if found:
-            return found
+        size = TAIL
+        while True:
+            begin, found = 0 if path.suffix == '.gz' else end_of(path, size), None
+            for line, _ in lines(path, begin):
+                found = line if IS_PLAIN.search(line) else found
+            if found:
+                return read_record(found)
+            if begin == 0 or size >= NEAR:
+                break
+            size *= 2
     return None
 
 

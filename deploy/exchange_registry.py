@@ -47,7 +47,7 @@ class Registry:
         for last in (False, True):
             connection = self.connect()
             try:
-                connection.request(method, path, body, {'GOO-Caller': 'ISSUER'})
+                connection.request(method, path, body, {'GOO-Caller': 'ISSUER', 'GOO-Role': 'full'})
                 answer = connection.getresponse()
                 return answer.status, answer.read(most).decode(errors='replace')
             except (OSError, http.client.HTTPException) as fault:

@@ -170,7 +170,7 @@ class Restoring:
             return f'certificates {first:014} to {last:014}, which nobody holds here yet; another request comes first'
         body = compact({'command': 'export', 'key': f'restored-{self.ours.generation}-{notice.number}', 'giver': held[0], 'peer': notice.addressee,
                         'account': notice.account, 'first': f'{first:014}', 'last': f'{last:014}'})
-        return f"curl -sS {registry.curl_words()} -H 'GOO-Caller: {held[1]}' -d '{body}'"
+        return f"curl -sS {registry.curl_words()} -H 'GOO-Caller: {held[1]}' -H 'GOO-Role: full' -d '{body}'"
 
     def is_whole(self):
         """Whether each peer has told what it has of ours, and our registry lacks none of it."""

@@ -116,8 +116,9 @@ class Questions:
 class Applier:
     def __init__(self, words, key, pair):
         self.words, self.key, self.pair = words, key, pair
-        self.archive = entries.Archive(pathlib.Path(words.state) / 'archive')
-        self.place = Place(pathlib.Path(words.state) / 'place', self.archive.last and self.archive.last.entry.n)
+        self.place = Place(pathlib.Path(words.state) / 'place')          # locked, before the archive is opened: another replica may be writing there
+        self.archive = entries.Archive(pathlib.Path(words.state) / 'archive', key)
+        self.place.take(self.archive.last and self.archive.last.entry.n)
         self.registry, self.frames = Questions(words.registry, self.came), Frames()
         self.poll = select.poll()
         self.poll.register(pair, select.POLLIN)

@@ -15,11 +15,13 @@ No more of etcd is used than its JSON gateway (/v3/kv/range, txn, compaction, /v
 import asyncio, base64, collections, json, re, ssl, time, urllib.parse
 
 import entries
-from replica_file import NoAnswer, Point, after
+from replica_file import Denied, NoAnswer, Point, after
 
 PATIENCE, CONNECT = 2, 0.5              # seconds for etcd's answer, and to reach a member: a host that is down is silent
 BROKEN = (OSError, TimeoutError, EOFError, ValueError, LookupError, asyncio.LimitOverrunError)
 LASTS, TURNS = 0.02, 6                  # seconds at most that a host lets another one append first, and the appends that it looks back to
+DENIED, EXHAUSTED = (3, 7, 12, 16), 8      # gRPC's codes: the request, its sender or the call is not taken; a limit is reached
+TOO_LARGE = re.compile("request is too large|larger than max")
 APPENDED = re.compile(rb'"time":"[^"]*","host":"([^"]*)"')       # the same in all entries of one append
 Said = collections.namedtuple("Said", "status body")
 
@@ -46,6 +48,17 @@ async def response(reader):
     return Said(status, await reader.readexactly(int(fields["content-length"])))
 
 
+def fault_of(answer):
+    """What an answer that is not 200 says. Of what else a limit may be for, some is told behind a transaction that took effect (NOSPACE), so that is no denial."""
+    try:
+        said = json.loads(answer.body)
+        code, text = said["code"], str(said.get("error") or said.get("message"))[:200]
+    except (ValueError, TypeError, LookupError, AttributeError):
+        return NoAnswer(f"{answer.status} {answer.body.decode(errors='replace')[:200]}")
+    is_large = bool(TOO_LARGE.search(text))
+    return Denied(text, is_large) if code in DENIED or code == EXHAUSTED and is_large else NoAnswer(text)
+
+
 class Etcd:
     """One question at a time: to the members in turn, the first one first."""
 
@@ -70,7 +83,7 @@ class Etcd:
             async with asyncio.timeout(PATIENCE):
                 answer = await response(await self.send(path, words))
             if answer.status != 200:
-                raise NoAnswer(answer.body.decode()[:200])
+                raise fault_of(answer)
             return json.loads(answer.body)
         except (*BROKEN, NoAnswer) as fault:
             self.drop()
@@ -161,6 +174,7 @@ class Keys:
 
 class EtcdStore:
     compares, at_once = True, False
+    most = 1500000                          # bytes of one append, as etcd counts them: it takes 1.5 MiB (--max-request-bytes), and the longest line is shorter
     ahead = 8                                   # entries that wait to be applied when the next append begins
 
     def __init__(self, words, key, place):
@@ -246,9 +260,13 @@ class EtcdStore:
             self.moved.set()
         self.replica.learn(n, line)
 
+    def cost(self, size):
+        """What a line of so many bytes is of `most`: with its key, and what is around both."""
+        return size + 100
+
     async def append(self, lines, end, last, wanted):
-        """One transaction. Without an answer the very same one is sent again, as long as somebody waits for it."""
-        first, began = self.keys.log(end.n + 1), time.monotonic()
+        """One transaction. Without an answer the very same one is sent again, as long as somebody waits for it. Where etcd denies it, Denied is raised at once."""
+        first, began, is_sure = self.keys.log(end.n + 1), time.monotonic(), True
         words = {"compare": [is_value(self.keys.end, as_text(end)), is_there(first, False)],
                  "success": [*(put(self.keys.log(n), line) for n, line in enumerate(lines, end.n + 1)), put(self.keys.end, as_text(last))],
                  "failure": [get(self.keys.end), get(first)]}
@@ -256,7 +274,10 @@ class EtcdStore:
             applied = Point(self.place.n, self.place.h, "")
             try:
                 answer = await self.etcd["append"].call("kv/txn", words)
+            except Denied as denied:
+                raise Denied(str(denied), denied.is_large, is_sure) from denied
             except NoAnswer:
+                is_sure = False
                 await asyncio.sleep(0.05)
                 continue
             if answer.get("succeeded"):

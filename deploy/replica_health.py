@@ -4,7 +4,7 @@ import json
 from replica_registry import Answer
 
 BEHIND = 1000                   # entries
-TOTALS = ("writes", "reads", "applied", "again", "aside", "overtaken", "role_refused")
+TOTALS = ("writes", "reads", "applied", "again", "aside", "overtaken", "role_refused", "beyond")
 
 
 def health(replica):

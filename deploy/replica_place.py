@@ -13,15 +13,19 @@ class Place:
     """
 
     def __init__(self, path, most=None):
-        """Takes the newest place that is not beyond entry `most`, the end of the archive: an archive may lose what was not synced."""
-        self.file = os.open(path, os.O_RDWR)
+        """Opens and locks the file, and takes a place of it."""
+        self.path, self.file = path, os.open(path, os.O_RDWR | os.O_NOFOLLOW)
         try:
             fcntl.flock(self.file, fcntl.LOCK_EX | fcntl.LOCK_NB)
         except OSError as fault:
             raise entries.Broken(f"{path}: another program has it open; two at one registry would apply entries out of order") from fault
+        self.take(most)
+
+    def take(self, most):
+        """Takes the newest place that is not beyond entry `most`, the end of the archive: an archive may lose what was not synced."""
         places = [(place, slot) for slot in (0, 1) if (place := self.slot_at(slot)) and (most is None or place[0] <= most)]
         if not places:
-            raise entries.Broken(f"{path}: no place in it" + (f" at or before entry {most}, where the archive ends" if most is not None else ""))
+            raise entries.Broken(f"{self.path}: no place in it" + (f" at or before entry {most}, where the archive ends" if most is not None else ""))
         (self.n, self.h, self.chain), slot = max(places)
         os.fdatasync(self.file)
         self.slot, self.loose = 1 - slot, 0         # entries since the last sync

@@ -28,6 +28,7 @@ MONTHS = [(2023, 9), (2024, 3), (2024, 9), (2024, 10), (2024, 11), (2024, 12)]
 def request_of(caller, body, **more):
     """The bytes of a request, or of a table of declarations, with further fields."""
     target, text = ('/v1/requests', json.dumps(body)) if isinstance(body, dict) else ('/v1/declarations', body)
+    more = {'GOO_Role': 'full', **more}
     return post(text, caller, target, more=[CLOSE, *(f"{name.replace('_', '-')}: {value}" for name, value in more.items())])
 
 
@@ -133,7 +134,6 @@ def world(place):
     place.request('SUN', 'export', giver=1, peer=9, account=5, first='07000000000953', last='07000000000957')
     place.post('SUN', {'command': 'transfer', 'key': 'refused', 'giver': 1, 'taker': 77, 'first': '07000000000733', 'last': '07000000000733'})
     place.request('ISSUER', 'withdraw', first='07000000001033', last='07000000001038', reason='meter read twice')
-    place.post('ISSUER', {'command': 'withdraw', 'key': 'tried', 'first': '07000000000733', 'last': '07000000000733', 'reason': 'meter read twice'}, GOO_User='paula', GOO_Role='reads')
     place.followed()
 
 
@@ -530,18 +530,6 @@ class Seen:
         rows = cells_once(b, lambda rows: len(rows) == min(own, 100))
         check('filtered by user, it has the acts of this user', len(rows) == min(own, 100) and all('by office' in row[8] for row in rows), (own, len(rows)))
 
-    def beyond_role(self):
-        """What a role does not allow is told as that, with who tried it, in the history and by itself."""
-        b, check = self.b, self.check
-        b.go('history//outcome=refused', 'table')
-        rows = [row[1:2] + row[6:7] + row[8:] for row in cells(b) if 'role' in row[6]]
-        check('what a role does not allow is refused for the role, and who tried it is told', rows == [['withdrawal', 'refused: role “read only”', 'meter read twice by paula']], cells(b)[:3])
-        b.picture('history-role')
-        b.press('tr:has(.refused) td a', '20')
-        got = b.text('main dl', 'read only').split('\n')
-        facts = dict(zip(got[::2], got[1::2]))
-        check('and so is the act by itself', (facts['Outcome'], facts['Role'], facts['User'], facts['Caller'], facts['Key']) == ('refused: role “read only”', 'read only', 'paula', 'ISSUER', 'tried'), facts)
-
     def auditor(self):
         """Whoever may only read is offered nothing that the front door would refuse."""
         b, check = self.b, self.check
@@ -771,8 +759,8 @@ class OfManyLots(WithRecords):
 PUBLIC = 'nemo'
 """Whose browser stands for anybody's: he signs in nowhere here."""
 STEPS = [('anna', ['accounts', 'foot', 'holdings', 'history', 'names', 'lists', 'quantity', 'lost_in_the_middle', 'cancel_many', 'export_many', 'by_keyboard', 'german']), ('bela', ['of_other']),
-         ('office', ['beyond_role', 'devices', 'upload', 'entered', 'german_of_issuer']), ('paula', ['auditor']), ('meters', ['meters']), (PUBLIC, ['public', 'public_in_german'])]
-IN_QUICK = [('anna', ['accounts', 'foot', 'lost_in_the_middle', 'cancel_many', 'by_keyboard']), ('office', ['beyond_role', 'upload', 'german_of_issuer']), ('paula', ['auditor']), ('meters', ['meters']), (PUBLIC, ['public'])]
+         ('office', ['devices', 'upload', 'entered', 'german_of_issuer']), ('paula', ['auditor']), ('meters', ['meters']), (PUBLIC, ['public', 'public_in_german'])]
+IN_QUICK = [('anna', ['accounts', 'foot', 'lost_in_the_middle', 'cancel_many', 'by_keyboard']), ('office', ['upload', 'german_of_issuer']), ('paula', ['auditor']), ('meters', ['meters']), (PUBLIC, ['public'])]
 ROLES = ('paula ISSUER reads', 'meters ISSUER declares')
 
 

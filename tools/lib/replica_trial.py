@@ -359,7 +359,7 @@ def enter(host):
 def ask(host, method, target, caller, body, patience, **more):
     """Status, entry, whether stale, and text."""
     enter(host)
-    fields = [f"GOO-{name.title()}: {value}" for name, value in {"user": f"u-{caller}", "address": "192.0.2.7", **more}.items()]
+    fields = [f"GOO-{name.title()}: {value}" for name, value in {"user": f"u-{caller}", "address": "192.0.2.7", "role": "full", **more}.items() if value is not None]
     came = client.ask(host.port, client.request(method, target, caller, [client.CLOSE, *fields], "goo", body), patience=patience, whole=patience)
     head, _, text = came.partition(b"\r\n\r\n")          # read here and not by http.client, whose time would be part of the figures
     length = re.search(rb"(?i)content-length: *(\d+)", head)
