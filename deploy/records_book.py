@@ -5,21 +5,20 @@ and the rows that it left. Refused and unreadable requests are acts that changed
 """
 import bisect
 import collections
-import csv
-import io
 import json
 import re
 import sqlite3
 
+import records_rows
 import replica_roles
 import rules
 from rules import EXPORTED, ISSUER, LOT, PLANT, Again, Certificates, Registry, months_after
 
-FORM = 3
+FORM = 4
 """Of this file. A file of another form is made anew, and nothing is read from it until then."""
 TABLES = f'''
 CREATE TABLE meta (id INTEGER PRIMARY KEY CHECK (id = 1), form INTEGER, code INTEGER, today TEXT, entry INTEGER, hash TEXT, time TEXT) STRICT;
-CREATE TABLE act (id INTEGER PRIMARY KEY, entry INTEGER NOT NULL, line INTEGER NOT NULL, time TEXT, user TEXT, role TEXT, caller TEXT NOT NULL, day TEXT NOT NULL, kind TEXT NOT NULL,
+CREATE TABLE act (id INTEGER PRIMARY KEY, entry INTEGER NOT NULL, line INTEGER NOT NULL, rows INTEGER NOT NULL, lines TEXT, time TEXT, user TEXT, role TEXT, caller TEXT NOT NULL, day TEXT NOT NULL, kind TEXT NOT NULL,
                   outcome TEXT NOT NULL, refusal TEXT, key TEXT, holder TEXT, giver INTEGER, taker INTEGER, device TEXT, peer INTEGER, number INTEGER, wh INTEGER, note TEXT) STRICT;
 CREATE INDEX act_by_key ON act (key);
 CREATE TABLE seen (viewer TEXT, act INTEGER, PRIMARY KEY (viewer, act)) STRICT, WITHOUT ROWID;
@@ -65,7 +64,7 @@ INDEXED = f"INSERT INTO word (rowid, text) SELECT id, WITHOUT_NUL({searched('act
 have each letter begin a three."""
 CACHE = 65_536
 """KiB of the file that the writer keeps in memory."""
-NO_ACT = {'id': 0, 'entry': 0, 'line': 0, **dict.fromkeys(('time', 'user', 'role', 'caller', 'day', 'kind', 'outcome', 'refusal', 'key', 'holder', 'giver', 'taker', 'device', 'peer', 'number', 'wh', 'note'))}
+NO_ACT = {'id': 0, 'entry': 0, 'line': 0, 'rows': 0, **dict.fromkeys(('lines', 'time', 'user', 'role', 'caller', 'day', 'kind', 'outcome', 'refusal', 'key', 'holder', 'giver', 'taker', 'device', 'peer', 'number', 'wh', 'note'))}
 """The columns of an act, in the order of its table."""
 KINDS = {'declare': 'issue', 'correct': 'correction', 'transfer': 'transfer', 'cancel': 'cancellation', 'withdraw': 'withdrawal', 'export': 'export', 'import': 'import',
          'open_holder': 'holder', 'open_account': 'account', 'close_account': 'closing', 'register_device': 'device', 'advance': 'date', 'add_peer': 'peer'}
@@ -246,10 +245,18 @@ class Book:
         elif entry.route == REQUEST_ROUTE:
             self.take_request(at, entry.body, outcome)
         elif entry.route == TABLE_ROUTE and outcome.status == 200:
-            for line, fields, word in rows_of_table(entry.body, outcome.body.decode()):
-                self.take_answer({**at, 'line': line}, command_of_row(fields), *told_of_row(word))
+            self.take_table(at, entry.body, outcome.body)
         elif entry.route == TABLE_ROUTE:
-            self.add_act({**at, 'kind': 'issue', 'outcome': 'unreadable', 'refusal': f'status {outcome.status}'})
+            self.add_act({**at, 'kind': 'issue', 'outcome': 'set aside' if outcome.status == 500 else 'unreadable', 'refusal': f'status {outcome.status}'})
+
+    def take_table(self, at, table, report):
+        """Writes what each row of a table came to, and then what rows together came to."""
+        together = records_rows.Together(at['caller'])
+        for row in records_rows.rows_of_table(table, report):
+            if not together.takes(row):
+                self.take_answer({**at, 'line': row.line, 'rows': 1}, command_of_row(row.fields), row.outcome, row.refusal)
+        for same in together.kinds.values():
+            self.add_act({**at, 'line': same.spans[0][0], 'rows': same.count, 'lines': same.lines, 'kind': 'issue', 'outcome': same.outcome, 'refusal': same.refusal})
 
     def take_beyond_role(self, at, entry, outcome):
         """Writes who tried what his role does not allow. The registry has not heard of it."""
@@ -335,7 +342,7 @@ class Book:
         for first, last, lot, old, new in changes:
             known = self.lot(lot, first)
             giver = old.account if old and old.kind != EXPORTED else None      # whoever exported it has no part in its return
-            self.moves += 1
+            self.moves, self.waiting = self.moves + 1, self.waiting + 1
             self.insert('moved', self.moves, act, first, last, known, new.kind, new.account, old and old.kind, giver)
             begin = self.begins[known]
             self.insert('passed', self.moves, first - begin, last - begin, known, known)
@@ -446,25 +453,13 @@ def command_of(body):
 
 def kept(command):
     """The texts and numbers of a command that the registry has not read, as far as a book can keep them."""
-    return {name: value for name, value in command.items() if type(value) is int and abs(value) < 2 ** 63 or isinstance(value, str) and not LONE.search(value)}
+    return {name: value for name, value in command.items() if type(value) is int and abs(value) < 2 ** 63 or isinstance(value, str) and len(value) <= MOST_TEXT and not LONE.search(value)}
 
 
 LONE = re.compile('[\ud800-\udfff]')
 """Half of a letter of two, which JSON can write and no UTF-8 has."""
-
-
-def rows_of_table(body, answer):
-    """Each row of a table of declarations that was answered: its number, its fields, and the answer's words."""
-    told = {int(line.split(' ')[0]): line.split(' ')[1:] for line in answer.splitlines() if line}
-    rows = [fields for fields in csv.reader(io.StringIO(body.decode('utf-8-sig', errors='replace'), newline='')) if fields]
-    for line, fields in enumerate(rows[1:], 1):
-        if line in told:
-            yield line, fields, told[line]
-
-
-def told_of_row(words):
-    """The outcome of a row, and the name of its refusal, which the answer to a table tells by its code."""
-    return words[0], rules.REFUSALS[int(words[1]) - 1] if len(words) > 1 else None
+MOST_TEXT = 200
+"""Letters of a text that the registry has not read. What it reads is shorter."""
 
 
 def command_of_row(fields):
@@ -472,5 +467,9 @@ def command_of_row(fields):
     if len(fields) != len(COLUMNS):
         return {}
     row = dict(zip(COLUMNS, fields))
-    energy = {name: int(row[name]) for name in ('gross_wh', 'aux_wh') if row[name].isascii() and row[name].isdigit()}
+    energy = {name: int(row[name]) for name in ('gross_wh', 'aux_wh') if ENERGY.fullmatch(row[name])}
     return {'command': 'declare', **row, **energy}
+
+
+ENERGY = re.compile('[0-9]{1,16}')
+"""Wh in a row of a table."""

@@ -1,0 +1,168 @@
+"""The book of acts: what any user may send leaves a book, and one in proportion to what was sent."""
+import random
+from pathlib import Path
+
+import pytest
+import readings
+import records_rows
+import tables
+from made_book import DEVICE
+from made_book import HEADER
+from made_book import PLANT
+from made_book import Made
+from mutations import gsrn
+from rules import ISSUER
+
+MOST = 1_048_576
+"""Bytes of one request, by docs/FORMATS.md."""
+
+
+@pytest.fixture
+def made(tmp_path: Path) -> Made:
+    """A small country and its book."""
+    begun = Made(tmp_path)
+    begun.country()
+    return begun
+
+
+OTHER = gsrn(86)
+
+
+def row(key: str, month: int, gross: int = 1, device: str = DEVICE) -> bytes:
+    return f'{key},{device},2025-{month:02}-01,2025-{month:02}-28,{gross},0\n'.encode()
+
+
+# ------------------------------------------------------------ rows, as the program reads them
+
+def test_tables_are_read_as_the_documents_say() -> None:
+    chance = random.Random(86)
+    pieces = [b'"', b',', b'\r', b'\n', b'a', b'""', b'\xef\xbb\xbf', b'\0', b' ', b'b"', b'\xff']
+    for _ in range(20_000):
+        table = b''.join(chance.choices(pieces, k=chance.randrange(12)))
+        assert list(tables.records_in(table)) == readings.records_in(table), table
+
+
+LONGEST = {
+    'one field': b'a' * (MOST - len(HEADER)),
+    'one field in quotes': b'"' + b'a' * (MOST - len(HEADER) - 1),
+    'a field of quotes': b'"' * (MOST - len(HEADER)),
+    'one row of many fields': b',' * (MOST - len(HEADER)),
+    'more digits than Python turns into a number': row('d', 2).replace(b',1,', b',' + b'9' * 5000 + b','),
+    'every byte value': b''.join(b'%b,"%b"\n' % (bytes([value]), bytes([value])) for value in range(256)),
+    'a field that csv refuses': b'a' * 131_073 + b',b\n',
+}
+
+
+@pytest.mark.parametrize('rows', LONGEST.values(), ids=LONGEST.keys())
+def test_no_row_ends_the_book(made: Made, rows: bytes) -> None:
+    report = made.send_table('SUN', HEADER + rows)
+    assert report.count(b'unreadable') == report.count(b'\n') > 0
+    unreadable = made.acts(outcome='unreadable')
+    assert sum(act['rows'] for act in unreadable) == report.count(b'\n')
+    made.must('VOLT', 'close_account', account=2)
+    assert made.acts()[0]['kind'] == 'closing'
+
+
+# ------------------------------------------------------------ what a table leaves
+
+FEW = 1.5
+"""A book grows by no more than this for each byte of a table that changes nothing."""
+
+
+def grown(made: Made, send: object) -> int:
+    before = made.size()
+    assert callable(send)
+    send()
+    return made.size() - before
+
+
+def test_a_table_of_unreadable_rows_is_one_act(made: Made) -> None:
+    count = (MOST - len(HEADER)) // 2
+    table = HEADER + b'a\n' * count
+    report = b''.join(b'%d unreadable\n' % line for line in range(1, count + 1))
+    record = made.record('SUN', '/v1/declarations', table, 200, report)
+    assert grown(made, lambda: made.take(record)) < len(table) / 20
+    act, = made.acts(outcome='unreadable')
+    assert (act['kind'], act['rows'], act['line']) == ('issue', count, 1)
+    assert (act['lines'], act['caller'], act['entry']) == (f'1-{count}', 'SUN', record.entry.n)
+
+
+def test_a_holders_table_of_refused_rows_is_one_act(made: Made) -> None:
+    rows = [row(f'r{line}', 2) for line in range(20_000)]
+    size = grown(made, lambda: made.send_table('SUN', HEADER + b''.join(rows)))
+    assert size < sum(map(len, rows)) / 20
+    act, = made.acts(outcome='refused')
+    assert (act['refusal'], act['rows'], act['lines']) == ('NotAllowed', 20_000, '1-20000')
+
+
+def test_small_tables_of_a_holder_leave_no_more_than_they_are(made: Made) -> None:
+    tables_sent = [HEADER + row(f's{at}', 2) * 20 for at in range(200)]
+    sent = grown(made, lambda: [made.send_table('VOLT', table) for table in tables_sent])
+    assert sent < FEW * sum(map(len, tables_sent))
+
+
+def test_refused_rows_of_the_issuing_body_are_acts_of_their_own(made: Made) -> None:
+    made.must(ISSUER, 'register_device', **{**PLANT, 'device': OTHER})
+    rows = b'no row\n'.join(row(key, month, 1, OTHER) for key, month in zip('abcd', (2, 1, 3, 1)))
+    report = made.send_table(ISSUER, HEADER + rows)
+    assert report.decode().split() == [
+        '1', 'accepted', '2', 'unreadable', '3', 'refused', '11', '4', 'unreadable',
+        '5', 'accepted', '6', 'unreadable', '7', 'refused', '11']
+    acts = made.acts(entry=made.last)[::-1]
+    told = [(act['line'], act['rows'], act['outcome'], act['refusal'], act['key']) for act in acts]
+    assert told == [
+        (1, 1, 'accepted', None, 'a'), (3, 1, 'refused', 'PeriodOrder', 'b'),
+        (5, 1, 'accepted', None, 'c'), (7, 1, 'refused', 'PeriodOrder', 'd'),
+        (2, 3, 'unreadable', None, None)]
+    assert acts[-1]['lines'] == '2,4,6'
+    assert {act['device'] for act in acts[:-1]} == {OTHER}
+
+
+def test_the_later_ones_of_many_refused_rows_are_told_together(made: Made) -> None:
+    count = records_rows.OWN_ACTS + 500
+    made.send_table(ISSUER, HEADER + b''.join(row(f'm{line}', 1) for line in range(count)))
+    refused = made.items(ISSUER, 'acts', outcome='refused')
+    assert len(refused) == records_rows.OWN_ACTS + 1
+    assert sum(act['rows'] for act in refused) == count
+    assert refused[0]['lines'] == f'{records_rows.OWN_ACTS + 1}-{count}'
+
+
+def test_lines_of_one_act_are_few(made: Made) -> None:
+    pairs = b''.join(row(f'l{line}', 4) + b'a\n' for line in range(300))
+    made.send_table('SUN', HEADER + pairs)
+    for act in made.acts(entry=made.last):
+        assert act['rows'] == 300
+        assert act['lines'].count(',') == records_rows.SPANS - 1
+
+
+# ------------------------------------------------------------ requests of any bytes
+
+SMALL = [bytes([value]) * 3 for value in range(256)] + [
+    b'\xef\xbb\xbf{}', b'{"a":NaN}', b'{"command":["cancel"],"key":{}}', b'{"a":1e999}',
+    b'{"command":"open_holder","key":"\\ud800"}', '{"command":"cancel","key":"k"}'.encode('utf-16')]
+LONG = [b'[' * (MOST // 2), b'{"command":' * 90_000, b'"' + b'\\u0000' * 170_000 + b'"', b'9' * MOST,
+        b'{"command":"cancel","key":"%b"}' % (b'k' * 1_000_000)]
+BODIES = [*SMALL, *LONG]
+
+
+def test_no_request_ends_the_book(made: Made) -> None:
+    for body in SMALL:
+        assert made.send_body('SUN', body)['outcome'] == 'unreadable'
+    wrong = b'{"fault":"NotJson","outcome":"unreadable"}'
+    tried = [*((body, 400, wrong, 'full') for body in LONG),
+             *((body, 500, b'Set aside\n', 'full') for body in BODIES),
+             *((body, 403, b'Forbidden\n', 'reads') for body in BODIES)]
+
+    def take_all() -> None:
+        for body, status, answer, role in tried:
+            made.take(made.record('SUN', '/v1/requests', body, status, answer, role=role))
+
+    assert grown(made, take_all) < 600 * len(tried)
+    counts = {outcome: len(made.acts(outcome=outcome))
+              for outcome in ('unreadable', 'set aside', 'refused')}
+    assert counts == dict.fromkeys(('unreadable', 'set aside', 'refused'), len(BODIES))
+
+
+def test_a_table_that_was_set_aside_is_told_so(made: Made) -> None:
+    made.take(made.record(ISSUER, '/v1/declarations', HEADER, 500, b'Set aside\n'))
+    assert made.acts()[0]['outcome'] == 'set aside'
