@@ -4,9 +4,10 @@ import bisect
 import datetime
 import hashlib
 import hmac
+from collections.abc import Callable, Iterator
 from dataclasses import dataclass
 
-from records_book import searched, without_nul
+from records_book import KINDS, searched, without_nul
 from rules import CANCELLED, EXPIRED, EXPORTED, HELD, ISSUER, PLACES, WITHDRAWN
 
 MOST, USUAL, MOST_IN_FILE = 1000, 100, 100_000
@@ -30,6 +31,14 @@ FEW, MOST_THREES = 20_000, 60
 """Acts that are read one by one where a text is looked for: of more the index of texts tells those that can have it. And how many threes of letters it is asked for at once."""
 DAYS = ('from', 'to', 'expires_before')
 """Parameters that are days."""
+WHOLE = ('account', 'peer', 'number')
+"""Filters that are whole numbers."""
+WORDS = {'kind': (*KINDS.values(), 'expiry', 'unreadable'), 'outcome': ('accepted', 'refused', 'unreadable', 'set aside')}
+"""Filters that are one of these words."""
+IS_SET = {'1': True, 'yes': True, 'true': True, '0': False, 'no': False, 'false': False}
+"""What a parameter that is set or not may say."""
+TAKES = {'transfer': 'tradable', 'export': 'tradable', 'cancel': 'held', 'withdraw': 'held'}
+"""The acts that certificates are chosen for, and which of an account's certificates each can take: those whose trade is open, or all that are held."""
 
 
 class NotFound(Exception):
@@ -81,7 +90,7 @@ class Conditions:
     def add_given(self, filters, asked):
         """Those filters that were asked for."""
         for name, text in filters.items():
-            if value := day_of(asked, name) if name in DAYS else asked.get(name):
+            if (value := value_of(asked, name)) is not None:
                 self.add(text, (value,))
 
     @property
@@ -89,14 +98,41 @@ class Conditions:
         return ' AND '.join(f'({text})' for text in self.texts)
 
 
-def number_of(asked, name, default=None, most=10 ** 15):
+@dataclass(frozen=True)
+class Listed:
+    """The rows of a list, each read when it is asked for; the names of their columns; and what is told beside the rows, once they are read."""
+    columns: tuple[str, ...]
+    rows: Iterator[dict]
+    beside: Callable[[list[dict]], dict] = lambda found: {'next': None}
+
+
+def value_of(asked, name):
+    """The value of a filter; None where it was not asked for."""
+    if name in DAYS:
+        return day_of(asked, name)
+    if name in WHOLE:
+        return number_of(asked, name)
+    if asked.get(name) and asked[name] not in WORDS.get(name, (asked[name],)):
+        raise BadQuestion(f'{name} is {asked[name]!r}, and not one of {", ".join(WORDS[name])}')
+    return asked.get(name) or None
+
+
+def is_set(asked, name):
+    """Whether a parameter that is yes or no is yes."""
+    text = asked.get(name) or 'no'
+    if text not in IS_SET:
+        raise BadQuestion(f'{name} is {text!r}, and not one of {", ".join(IS_SET)}')
+    return IS_SET[text]
+
+
+def number_of(asked, name, default=None, most=10 ** 15, least=0):
     """A parameter that is a whole number."""
     text = asked.get(name)
     if not text:
         return default
     digits = text.replace(',', '').replace(' ', '').replace('\u202f', '')
-    if not (digits.isascii() and digits.isdigit() and int(digits) <= most):
-        raise BadQuestion(f'{name} is {text!r}, and not a whole number up to {most:,}')
+    if not (digits.isascii() and digits.isdigit() and len(digits) <= 16 and least <= int(digits) <= most):
+        raise BadQuestion(f'{name} is {text!r}, and not a whole number from {least} to {most:,}')
     return int(digits)
 
 
@@ -117,9 +153,22 @@ def rows(database, text, values=()):
     return [dict(row) for row in database.execute(text, values)]
 
 
+def read(database, text, values=()):
+    """The names of the columns of a query, and its rows as they are read."""
+    cursor = database.execute(text, values)
+    return tuple(name for name, *_ in cursor.description), map(dict, cursor)
+
+
 def page(asked):
     usual, most = (MOST_IN_FILE, MOST_IN_FILE) if asked.get('format') == 'csv' else (USUAL, MOST)
-    return min(number_of(asked, 'limit', usual), most), number_of(asked, 'offset', 0)
+    return min(number_of(asked, 'limit', usual, least=1), most), number_of(asked, 'offset', 0)
+
+
+def paged(asked, database, text, values):
+    """A page of a query."""
+    limit, offset = page(asked)
+    columns, found = read(database, f'{text} LIMIT ? OFFSET ?', (*values, limit, offset))
+    return Listed(columns, found, lambda shown: {'next': offset + limit if len(shown) == limit else None})
 
 
 def sorted_by(asked, columns, default):
@@ -147,9 +196,9 @@ def acts(database, viewer, asked):
     conditions.add_given(ACT_FILTERS, asked)
     add_words(conditions, viewer, asked)
     limit, _ = page(asked)
-    found = rows(database, f'SELECT act.* FROM {tables} WHERE {conditions.where} ORDER BY {column} DESC LIMIT ?', (*conditions.values, limit))
-    shown = [told(database, viewer, act, RANGES) for act in found]
-    return {'items': shown, 'next': found[-1]['id'] if len(found) == limit else None}
+    columns, found = read(database, f'SELECT act.* FROM {tables} WHERE {conditions.where} ORDER BY {column} DESC LIMIT ?', (*conditions.values, limit))
+    shown = (told(database, viewer, act, RANGES) for act in found)
+    return Listed((*columns, 'count', 'ranges', 'ranges_in_all'), shown, lambda acts: {'next': acts[-1]['id'] if len(acts) == limit else None})
 
 
 STARTS = {'word': ('word CROSS JOIN act ON act.id = word.rowid', 'word.rowid'), 'touched': ('touched CROSS JOIN act ON act.id = touched.act', 'touched.act'),
@@ -160,15 +209,15 @@ STARTS = {'word': ('word CROSS JOIN act ON act.id = word.rowid', 'word.rowid'), 
 def started(database, viewer, asked, ids):
     """The table that leads to the fewest acts, and what is asked of account, viewer and text."""
     account, text = number_of(asked, 'account'), asked.get('q')
-    touched = counted(database, 'touched', 'account', account) if account else FEW
+    touched = FEW if account is None else counted(database, 'touched', 'account', account)
     seen = FEW if viewer.sees_all else counted(database, 'seen', 'viewer', viewer.caller)
     others = min((counted(database, 'act', name, asked[name]) for name in ('kind', 'device', 'key') if asked.get(name)), default=FEW)
     if text and min(ids[1] - ids[0], touched, seen, others) >= FEW and (letters := letters_of(database, text)):
         return 'word', Conditions(('word MATCH ?', (letters,)), viewer.of_acts(), *of_account(account))
     if others < min(touched, seen):
         return 'act', Conditions(viewer.of_acts(), *of_account(account))
-    is_own = account and not viewer.sees_all and account in viewer.accounts(database)      # of his own account he sees each act
-    if account and (is_own or touched <= seen):
+    is_own = account is not None and not viewer.sees_all and account in viewer.accounts(database)      # of his own account he sees each act
+    if account is not None and (is_own or touched <= seen):
         return 'touched', Conditions(('touched.account = ?', (account,)), *([] if is_own else [viewer.of_acts()]))
     if viewer.sees_all:
         return 'act', Conditions()
@@ -182,7 +231,7 @@ def counted(database, table, column, value):
 
 def of_account(account):
     """A condition, where an account was asked for: the act touched it."""
-    return [('EXISTS (SELECT 1 FROM touched WHERE touched.account = ? AND touched.act = act.id)', (account,))] if account else []
+    return [('EXISTS (SELECT 1 FROM touched WHERE touched.account = ? AND touched.act = act.id)', (account,))] if account is not None else []
 
 
 def ids_asked(database, asked):
@@ -194,8 +243,8 @@ def ids_asked(database, asked):
         def of(number):
             return database.execute(f'SELECT {column} FROM act WHERE id = ?', (number,)).fetchone()[0]
 
-        low = max(low, bisect.bisect_left(range(1, most + 1), first, key=of) + 1) if first else low
-        high = min(high, bisect.bisect_right(range(1, most + 1), last, key=of)) if last else high
+        low = max(low, bisect.bisect_left(range(1, most + 1), first, key=of) + 1) if first is not None else low
+        high = min(high, bisect.bisect_right(range(1, most + 1), last, key=of)) if last is not None else high
     return low, high
 
 
@@ -296,12 +345,12 @@ def holdings_conditions(database, viewer, asked):
     if place not in kinds:
         raise BadQuestion(f'place is {place!r}, and not one of {", ".join(kinds)}')
     conditions = Conditions(viewer.of_accounts('run.account'), ('run.kind = ?', (kinds[place],)))
-    if account := number_of(asked, 'account'):
+    if (account := number_of(asked, 'account')) is not None:
         conditions.add('run.account = ?', (account,))
     conditions.add_given(LOT_FILTERS, asked)
     if text := asked.get('q'):
         conditions.add("instr(lower(lot.site || ' ' || lot.device), lower(?))", (text,))
-    if asked.get('tradable'):
+    if is_set(asked, 'tradable'):
         conditions.add('lot.trade_until IS NULL OR lot.trade_until >= (SELECT today FROM meta)')
     return conditions
 
@@ -313,13 +362,12 @@ def holdings(database, viewer, asked):
         raise BadQuestion(f'by is {by!r}, and not one of {", ".join(GROUPS)}')
     conditions = holdings_conditions(database, viewer, asked)
     joined_tables = f'FROM run JOIN lot ON lot.id = run.lot WHERE {conditions.where}'
-    limit, offset = page(asked)
     sums = 'sum(run.last - run.first + 1) AS count, count(*) AS runs'
     names = [column.split(' AS ')[-1].split('.')[-1] for column in GROUPS[by].split(', ')]
     order = sorted_by(asked, [*names, 'count', 'runs'], names[0])
-    found = rows(database, f'SELECT {GROUPS[by]}, {sums} {joined_tables} GROUP BY {KEYS.get(by, GROUPS[by])} ORDER BY {order} LIMIT ? OFFSET ?', (*conditions.values, limit, offset))
-    whole = dict(database.execute(f'SELECT coalesce(sum(run.last - run.first + 1), 0) AS count, count(*) AS runs, count(DISTINCT run.lot) AS lots {joined_tables}', conditions.values).fetchone())
-    return {'items': found, 'sum': whole, 'next': offset + limit if len(found) == limit else None}
+    found = paged(asked, database, f'SELECT {GROUPS[by]}, {sums} {joined_tables} GROUP BY {KEYS.get(by, GROUPS[by])} ORDER BY {order}', conditions.values)
+    whole = f'SELECT coalesce(sum(run.last - run.first + 1), 0) AS count, count(*) AS runs, count(DISTINCT run.lot) AS lots {joined_tables}'
+    return Listed(found.columns, found.rows, lambda shown: {**found.beside(shown), 'sum': dict(database.execute(whole, conditions.values).fetchone())})
 
 
 def deadlines(database, viewer, asked):
@@ -327,28 +375,31 @@ def deadlines(database, viewer, asked):
     days = number_of(asked, 'days', 60, 4000)
     conditions = holdings_conditions(database, viewer, {**asked, 'place': 'held'})
     near = 'date((SELECT today FROM meta), ?)'
-    return {'items': rows(database, f'''SELECT run.account, lot.id AS lot, {LOT_COLUMNS}, sum(run.last - run.first + 1) AS count,
+    return paged(asked, database, f'''SELECT run.account, lot.id AS lot, {LOT_COLUMNS}, sum(run.last - run.first + 1) AS count,
                                                CASE WHEN lot.trade_until >= (SELECT today FROM meta) THEN 'trade' ELSE 'expiry' END AS next
                                         FROM run JOIN lot ON lot.id = run.lot WHERE {conditions.where} AND (lot.trade_until BETWEEN (SELECT today FROM meta) AND {near} OR lot.expires_on <= {near})
                                         GROUP BY run.account, lot.id ORDER BY min(coalesce(lot.expires_on, '9999'), CASE WHEN lot.trade_until >= (SELECT today FROM meta) THEN lot.trade_until ELSE '9999' END), run.account, lot.id''',
-                          (*conditions.values, f'+{days} days', f'+{days} days'))}
+                 (*conditions.values, f'+{days} days', f'+{days} days'))
 
 
 def choice(database, viewer, asked):
-    """So many certificates of one account, as ranges that add up exactly."""
+    """So many certificates of one account that an act can take, as ranges that add up exactly. Where no act is named, any act can take them."""
     account, count = number_of(asked, 'account'), number_of(asked, 'count')
-    order = asked.get('order') or 'oldest'
+    order, act = asked.get('order') or 'oldest', asked.get('act') or 'transfer'
     if not account or not count:
         raise BadQuestion('account and count are wanted')
-    if order not in ORDERS:
-        raise BadQuestion(f'order is {order!r}, and not one of {", ".join(ORDERS)}')
-    conditions = holdings_conditions(database, viewer, {**asked, 'place': 'held'})
-    found = rows(database, f'''SELECT run.first, run.last, run.last - run.first + 1 AS count, lot.id AS lot, {LOT_COLUMNS} FROM run JOIN lot ON lot.id = run.lot
-                               WHERE {conditions.where} ORDER BY {ORDERS[order]}''', conditions.values)
+    for name, value, known in (('order', order, ORDERS), ('act', act, TAKES)):
+        if value not in known:
+            raise BadQuestion(f'{name} is {value!r}, and not one of {", ".join(known)}')
+    is_tradable = is_set(asked, 'tradable') or TAKES[act] == 'tradable'
+    conditions = holdings_conditions(database, viewer, {**asked, 'place': 'held', 'tradable': 'yes' if is_tradable else 'no'})
+    columns, runs = read(database, f'''SELECT run.first, run.last, run.last - run.first + 1 AS count, lot.id AS lot, {LOT_COLUMNS} FROM run JOIN lot ON lot.id = run.lot
+                                      WHERE {conditions.where} ORDER BY {ORDERS[order]}''', conditions.values)
+    found = list(runs)
     there = sum(run['count'] for run in found)
     if there < count:
-        raise TooFew(f'{there:,} certificates of account {account} are held that fit, and {count:,} were asked for')
-    return {'items': chosen(found, count, fitting=order == 'fewest'), 'count': count}
+        raise TooFew(f'{there:,} certificates of account {account} are held that fit{" and whose trade is open" if is_tradable else ""}, and {count:,} were asked for')
+    return Listed(columns, iter(chosen(found, count, fitting=order == 'fewest')), lambda shown: {'count': count})
 
 
 def chosen(runs, count, fitting):
@@ -385,12 +436,11 @@ def listed(name, database, viewer, asked):
     text, account, order = LISTS[name]
     conditions = Conditions(viewer.of_accounts(account))
     conditions.add_given({'account': f'{account} = ?', **FILTERS.get(name, {})}, asked)
-    limit, offset = page(asked)
-    found = rows(database, f'SELECT * FROM ({text} WHERE {conditions.where}) ORDER BY {sorted_by(asked, (order,), order if name in ("accounts", "devices") else f"-{order}")} LIMIT ? OFFSET ?',
-                 (*conditions.values, limit, offset))
-    if not viewer.sees_all:
-        found = [{**row, **{name: None for name in ('user', 'key') if name in row and row.get('caller') != viewer.caller}} for row in found]
-    return {'items': found, 'next': offset + limit if len(found) == limit else None}
+    found = paged(asked, database, f'SELECT * FROM ({text} WHERE {conditions.where}) ORDER BY {sorted_by(asked, (order,), order if name in ("accounts", "devices") else f"-{order}")}', conditions.values)
+    if viewer.sees_all:
+        return found
+    shown = ({**row, **{name: None for name in ('user', 'key') if name in row and row.get('caller') != viewer.caller}} for row in found.rows)
+    return Listed(found.columns, shown, found.beside)
 
 
 FILTERS = {'devices': {'device': 'device.gsrn = ?'}, 'declarations': {'device': 'declaration.device = ?'}, 'corrections': {'device': 'correction.device = ?'},
@@ -400,20 +450,15 @@ FILTERS = {'devices': {'device': 'device.gsrn = ?'}, 'declarations': {'device': 
 
 def holders(database, viewer, asked):
     """All holders for the issuing body, himself for a holder."""
-    limit, offset = page(asked)
     condition, values = ('TRUE', ()) if viewer.sees_all else ('holder.code = ?', (viewer.caller,))
-    found = rows(database, f'SELECT holder.code, holder.name, (SELECT count(*) FROM account WHERE account.holder = holder.code) AS accounts FROM holder WHERE {condition} ORDER BY code LIMIT ? OFFSET ?',
-                 (*values, limit, offset))
-    return {'items': found, 'next': offset + limit if len(found) == limit else None}
+    return paged(asked, database, f'SELECT holder.code, holder.name, (SELECT count(*) FROM account WHERE account.holder = holder.code) AS accounts FROM holder WHERE {condition} ORDER BY code', values)
 
 
 def withdrawals(database, viewer, asked):
     """Withdrawals with their reason. A holder sees those of certificates that he held, and his part of their range."""
-    limit, offset = page(asked)
     condition, values = viewer.of_accounts('moved.account')
-    found = rows(database, f'''SELECT withdrawal.number, withdrawal.reason, withdrawal.day, min(moved.first) AS first, max(moved.last) AS last, sum(moved.last - moved.first + 1) AS count, withdrawal.act
-                               FROM withdrawal JOIN moved ON moved.act = withdrawal.act WHERE {condition} GROUP BY withdrawal.number ORDER BY withdrawal.number DESC LIMIT ? OFFSET ?''', (*values, limit, offset))
-    return {'items': found, 'next': offset + limit if len(found) == limit else None}
+    return paged(asked, database, f'''SELECT withdrawal.number, withdrawal.reason, withdrawal.day, min(moved.first) AS first, max(moved.last) AS last, sum(moved.last - moved.first + 1) AS count, withdrawal.act
+                               FROM withdrawal JOIN moved ON moved.act = withdrawal.act WHERE {condition} GROUP BY withdrawal.number ORDER BY withdrawal.number DESC''', values)
 
 
 BY = {'month': 'substr(act.day, 1, 7)', 'tech': 'lot.tech', 'source': 'lot.source', 'carrier': 'lot.carrier', 'country': 'lot.country', 'device': 'lot.device', 'production': 'substr(lot.first_day, 1, 7)'}
@@ -424,15 +469,14 @@ FLOWS = {'issued': "act.kind = 'issue'", 'imported': "act.kind = 'import'", 'can
 def statistics(database, viewer, asked):
     """How many certificates were issued, came in, were cancelled, expired, were withdrawn and went out, by one or more of month, technology, source, carrier, country."""
     by = (asked.get('by') or 'month').split(',')
-    if wrong := [name for name in by if name not in BY]:
-        raise BadQuestion(f'by is {",".join(wrong)!r}, and not of {", ".join(BY)}')
+    if wrong := [name for name in by if name not in BY or by.count(name) > 1]:
+        raise BadQuestion(f'by is {",".join(wrong)!r}, and not of {", ".join(BY)}, each once')
     conditions = Conditions(viewer.of_accounts('moved.account'), (f"moved.kind <> {HELD} OR act.kind IN ('issue', 'import')", ()))
     conditions.add_given({'from': 'act.day >= ?', 'to': 'act.day <= ?', **{name: LOT_FILTERS[name] for name in ('tech', 'source', 'carrier', 'country', 'device')}}, asked)
     columns = ', '.join(f'{BY[name]} AS {name}' for name in by)
     sums = ', '.join(f'sum(CASE WHEN {test} THEN moved.last - moved.first + 1 ELSE 0 END) AS {name}' for name, test in FLOWS.items())
     places = ', '.join(map(str, range(1, len(by) + 1)))
-    return {'items': rows(database, f'SELECT {columns}, {sums} FROM moved JOIN act ON act.id = moved.act JOIN lot ON lot.id = moved.lot WHERE {conditions.where} GROUP BY {places} ORDER BY {places}',
-                          conditions.values), 'next': None}
+    return paged(asked, database, f'SELECT {columns}, {sums} FROM moved JOIN act ON act.id = moved.act JOIN lot ON lot.id = moved.lot WHERE {conditions.where} GROUP BY {places} ORDER BY {places}', conditions.values)
 
 
 # -------------------------------------------------------------------- documents of cancellations

@@ -148,17 +148,17 @@ def without_nul(text):
     return text.replace('\0', '\ufffd')
 
 
-def connected(path, read_only=False):
+def connected(path, read_only=False, factory=sqlite3.Connection):
     """A connection to a book."""
-    database = sqlite3.connect(f'{path.resolve().as_uri()}{"?mode=ro" if read_only else ""}', uri=True, isolation_level=None, timeout=30)
+    database = sqlite3.connect(f'{path.resolve().as_uri()}{"?mode=ro" if read_only else ""}', uri=True, isolation_level=None, timeout=30, factory=factory)
     database.row_factory = sqlite3.Row
     database.create_function('WITHOUT_NUL', 1, without_nul, deterministic=True)
     return database
 
 
-def opened(path):
+def opened(path, factory=sqlite3.Connection):
     """A connection that reads one moment of a finished book."""
-    database = connected(path, read_only=True)
+    database = connected(path, read_only=True, factory=factory)
     database.execute('BEGIN')
     form, = database.execute('SELECT form FROM meta').fetchone()
     if form != FORM:

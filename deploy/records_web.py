@@ -3,82 +3,83 @@
 gunicorn runs `application()`. The front door says who asks by GOO-Caller, as it says it to the registry, and nothing else reaches this service's socket.
 GOO_RECORDS names the folder with the book and the key of check codes, GOO_EXCHANGE the file in which the exchange tells what became of notices.
 """
-import csv
 import functools
-import io
+import itertools
 import json
 import os
 import re
 import sqlite3
 import sys
+import threading
+import time
+from collections import namedtuple
 from pathlib import Path
 
 from flask import Flask, Response, request
 
 import records_answers as answers
-from records_answers import BadQuestion, NotFound, TooFew, Viewer
+from records_answers import BadQuestion, Listed, NotFound, TooFew, Viewer
 from records_book import Mismatch, opened
+from records_files import csv_of, presented
+from records_parameters import parameters_of
 from rules import ISSUER, PLACES
 
 FOLDER, EXCHANGE = Path('/var/lib/goo-records'), Path('/var/lib/goo-records/exchange.json')
 PAGES = (Path(__file__).resolve().parent.parent / 'docs/records.yaml', Path('/usr/share/goo/api/records.yaml'))
 CALLER = re.compile(r'[A-Z0-9][A-Z0-9_-]{0,15}')
-FORMULA = ('=', '+', '-', '@', '\t', '\r')
-"""What a cell begins with that a spreadsheet would compute."""
-NUMBERS = ('first', 'last')
-"""Members that are numbers of certificates."""
 HEADERS = {'Cache-Control': 'no-store', 'X-Content-Type-Options': 'nosniff'}
+Limits = namedtuple('Limits', 'question file files', defaults=(10, 60, 2))
+"""The most seconds of an answer and of a file, and how many files one process writes at once: half of its threads, so that the other half is there for questions."""
+STEPS = 10_000
+"""Steps of SQLite after which it is looked whether the time is over."""
+BUSY = {'Retry-After': '10'}
 
 
-def presented(value):
-    """The same value with the numbers of certificates as the registry writes them, in 14 digits."""
-    if isinstance(value, dict):
-        return {name: f'{of:014}' if name in NUMBERS and isinstance(of, int) else presented(of) for name, of in value.items()}
-    return [presented(of) for of in value] if isinstance(value, list) else value
+class TooLong(Exception):
+    """The time of an answer is over."""
 
 
-def reply(status, value):
-    return Response(json.dumps(presented(value), ensure_ascii=False, separators=(',', ':')) + '\n', status, HEADERS, content_type='application/json')
+class Busy(Exception):
+    """As many files as may be are being written."""
 
 
-def cell(value):
-    """A value as a cell of a CSV that does no harm in a spreadsheet."""
-    if isinstance(value, list):
-        return ' '.join(f'{span["first"]}-{span["last"]}' for span in value)
-    text = '' if value is None else str(value)
-    return f"'{text}" if isinstance(value, str) and text.startswith(FORMULA) else text
+def reply(status, value, **fields):
+    return Response(json.dumps(presented(value), ensure_ascii=False, separators=(',', ':')) + '\n', status, {**HEADERS, **fields}, content_type='application/json')
 
 
-def flat(row):
-    """A row without rows in it: {'giver': {'account': 1}} becomes {'giver_account': 1}."""
-    parts = {name: value for name, value in row.items() if not isinstance(value, dict)}
-    return parts | {f'{name}_{inner}': value for name, of in row.items() if isinstance(of, dict) for inner, value in of.items()}
+class Timed(sqlite3.Connection):
+    """A connection for one answer. No statement is begun once its time is over, and one that runs is ended."""
+    end = float('inf')
 
+    def until(self, end):
+        self.end = end
+        self.set_progress_handler(self.is_late, STEPS)
 
-def as_csv(name, items):
-    """A list as a file."""
-    rows = [flat(presented(row)) for row in items]
-    columns = list(dict.fromkeys(column for row in rows for column in row))
-    text = io.StringIO()
-    writer = csv.writer(text, lineterminator='\r\n')
-    writer.writerow(columns)
-    writer.writerows([cell(row.get(column)) for column in columns] for row in rows)
-    return Response(text.getvalue(), 200, {**HEADERS, 'Content-Disposition': f'attachment; filename="{name}.csv"'}, content_type='text/csv; charset=utf-8')
+    def is_late(self):
+        return time.monotonic() > self.end
+
+    def execute(self, *words):
+        if self.is_late():
+            raise TooLong
+        return super().execute(*words)
 
 
 class Service:
     """What a route needs: the book that is the present one, the key of check codes, and what the exchange tells."""
 
-    def __init__(self, folder, exchange):
-        self.folder, self.exchange = folder, exchange
+    def __init__(self, folder, exchange, limits=Limits()):
+        self.folder, self.exchange, self.limits = folder, exchange, limits
+        self.files = threading.BoundedSemaphore(limits.files)
 
     @functools.cached_property
     def key(self):
         return (self.folder / 'code.key').read_bytes().strip()
 
-    def book(self):
-        database = opened(self.folder / 'current')      # one answer is of one moment
+    def book(self, end):
+        """One moment of the present book, for one answer that has time until then."""
+        database = opened(self.folder / 'current', Timed)
         database.create_function('PLACE', 1, PLACES.get, deterministic=True)
+        database.until(end)
         return database
 
     def viewer(self):
@@ -86,37 +87,73 @@ class Service:
         caller = request.headers.getlist('GOO-Caller')
         return Viewer(caller[0]) if len(caller) == 1 and (caller[0] == ISSUER or CALLER.fullmatch(caller[0])) else None
 
-    def answered(self, ask, name=None):
+    def answered(self, name, ask):
         """The answer to a question over the present book, or the error that it came to."""
         viewer = self.viewer()
         if viewer is None:
             return reply(403, {'error': 'nobody is signed in'})
-        return self.tried(lambda database: self.shown(ask(database, viewer), database, name))
+        return self.tried(name, lambda database, asked: ask(database, viewer, asked))
 
-    def tried(self, ask):
+    def tried(self, name, ask):
+        """The answer of a route to what it was asked, or the error that it came to. Its book is closed once it is sent."""
+        is_file = request.args.get('format') == 'csv'
+        seconds = self.limits.file if is_file else self.limits.question
+        end = time.monotonic() + seconds
         try:
-            database = self.book()
-        except (sqlite3.Error, Mismatch, OSError):
-            return reply(503, {'error': 'the records are being made'})
-        try:
-            return ask(database)
-        except sqlite3.DatabaseError as error:
-            print(f'records: {self.folder / "current"}: {error}', file=sys.stderr, flush=True)
-            return reply(503, {'error': 'the records cannot be read'})
+            asked = parameters_of(name, request.args)
+            database = self.book(end)
         except BadQuestion as error:
             return reply(400, {'error': str(error)})
-        except NotFound as error:
-            return reply(404, {'error': str(error)})
-        except TooFew as error:
-            return reply(409, {'error': str(error)})
-        finally:
+        except (sqlite3.Error, Mismatch, OSError):
+            return reply(503, {'error': 'the records are being made'}, **BUSY)
+        try:
+            answer = self.shown(ask(database, asked), database, name, is_file)
+        except (TooLong, Busy, sqlite3.DatabaseError, BadQuestion, NotFound, TooFew) as error:
+            answer = self.failed(error, database.is_late(), seconds)
+        except BaseException:
             database.close()
+            raise
+        answer.call_on_close(database.close)
+        return answer
 
-    @staticmethod
-    def shown(answer, database, name):
-        if name and request.args.get('format') == 'csv':
-            return as_csv(name, answer['items'])
-        return reply(200, {'stands': answers.standing(database), **answer})
+    def failed(self, error, is_late, seconds):
+        """The answer where there is none."""
+        if isinstance(error, BadQuestion | NotFound | TooFew):
+            return reply({BadQuestion: 400, NotFound: 404, TooFew: 409}[type(error)], {'error': str(error)})
+        if isinstance(error, Busy):
+            return reply(503, {'error': 'other files are being written: ask again in some seconds'}, **BUSY)
+        if is_late:
+            return reply(503, {'error': f'the answer takes longer than {seconds:g} s: ask for less, for example for one account, one kind of act or some days'}, **BUSY)
+        print(f'records: {self.folder / "current"}: {error}', file=sys.stderr, flush=True)
+        return reply(503, {'error': 'the records cannot be read'})
+
+    def shown(self, answer, database, name, is_file):
+        """An answer as it is sent: JSON, or for a list a file."""
+        if isinstance(answer, Response):
+            return answer
+        if not isinstance(answer, Listed):
+            return reply(200, {'stands': answers.standing(database), **answer})
+        if is_file:
+            return self.file(name, answer.columns, answer.rows)
+        found = list(answer.rows)
+        return reply(200, {'stands': answers.standing(database), 'items': found, **answer.beside(found)})
+
+    def file(self, name, columns, rows):
+        """A list as a file, written as it is read. Where the time ends within, so does the connection, and the client has no whole answer."""
+        parts = self.one_of_few(csv_of(columns, rows))
+        first = next(parts)         # what fails at once is told by its status
+        answer = Response(itertools.chain([first], parts), 200, {**HEADERS, 'Content-Disposition': f'attachment; filename="{name}.csv"'}, content_type='text/csv; charset=utf-8')
+        answer.call_on_close(parts.close)
+        return answer
+
+    def one_of_few(self, parts):
+        """The same parts, while no more files are under way than may be."""
+        if not self.files.acquire(blocking=False):
+            raise Busy
+        try:
+            yield from parts
+        finally:
+            self.files.release()
 
     # The routes. Each question has the book, who asks, and what he asks for.
 
@@ -137,8 +174,8 @@ class Service:
 
     def notices(self, database, viewer, asked):
         """Notices with what became of them, as far as the exchange was told; null where it says nothing."""
-        fates, answer = fates_in(self.exchange), answers.listed('notices', database, viewer, asked)
-        return {**answer, 'items': [{**row, 'fate': fates.get((row['sent'], row['peer'], row['number']))} for row in answer['items']]}
+        fates, found = fates_in(self.exchange), answers.listed('notices', database, viewer, asked)
+        return Listed((*found.columns, 'fate'), ({**row, 'fate': fates.get((row['sent'], row['peer'], row['number']))} for row in found.rows), found.beside)
 
     def cancellation(self, database, viewer, number):
         return answers.shown_document(database, viewer, number, self.key)
@@ -158,13 +195,26 @@ def fates_in(path):
 
 def described():
     """The description of the routes."""
+    try:
+        parameters_of('openapi.yaml', request.args)
+    except BadQuestion as error:
+        return reply(400, {'error': str(error)})
     page = next((page for page in PAGES if page.is_file()), None)
     return Response(page.read_bytes(), 200, HEADERS, content_type='application/yaml') if page else reply(404, {'error': 'there is no description here'})
 
 
-def application(folder=None, exchange=None):
+def checked(service):
+    """The public check: whether number and code belong together."""
+    def ask(database, asked):
+        found = answers.verified(database, asked, service.key)
+        return reply(200, {'valid': True, **found}) if found else reply(404, {'valid': False, 'error': 'number and code do not belong together'})
+
+    return service.tried('verify', ask)
+
+
+def application(folder=None, exchange=None, limits=Limits()):
     """The service as a WSGI application."""
-    service = Service(Path(folder or os.environ.get('GOO_RECORDS', FOLDER)), Path(exchange or os.environ.get('GOO_EXCHANGE', EXCHANGE)))
+    service = Service(Path(folder or os.environ.get('GOO_RECORDS', FOLDER)), Path(exchange or os.environ.get('GOO_EXCHANGE', EXCHANGE)), limits)
     app = Flask('goo-records', static_folder=None)
 
     @app.get('/records/v1/<name>')
@@ -172,7 +222,7 @@ def application(folder=None, exchange=None):
         ask = service.lists.get(name) or service.others.get(name)
         if ask is None:
             return reply(404, {'error': f'there is no list {name}'})
-        return service.answered(lambda database, viewer: ask(database, viewer, request.args), name if name in service.lists else None)
+        return service.answered(name, ask)
 
     @app.get('/records/v1/<name>/<int:number>')
     def one(name, number):
@@ -180,17 +230,10 @@ def application(folder=None, exchange=None):
             return reply(404, {'error': f'there is no number {number}'})
         if name not in service.ones:
             return reply(404, {'error': f'there is no {name}'})
-        return service.answered(lambda database, viewer: service.ones[name](database, viewer, number))
+        return service.answered(f'{name}/NUMBER', lambda database, viewer, asked: service.ones[name](database, viewer, number))
 
     app.get('/records/v1/openapi.yaml')(described)
-
-    @app.get('/verify')
-    def verify():
-        def ask(database):
-            found = answers.verified(database, request.args, service.key)
-            return reply(200, {'valid': True, **found}) if found else reply(404, {'valid': False, 'error': 'number and code do not belong together'})
-
-        return service.tried(ask)
+    app.get('/verify')(lambda: checked(service))
 
     @app.errorhandler(404)
     def missing(error):

@@ -1,5 +1,6 @@
 """The book of acts: what any user may send leaves a book, and one in proportion to what was sent."""
 import random
+import threading
 from pathlib import Path
 
 import pytest
@@ -11,6 +12,7 @@ from made_book import HEADER
 from made_book import PLANT
 from made_book import Made
 from mutations import gsrn
+from records_queue import Ahead
 from rules import ISSUER
 
 MOST = 1_048_576
@@ -166,3 +168,24 @@ def test_no_request_ends_the_book(made: Made) -> None:
 def test_a_table_that_was_set_aside_is_told_so(made: Made) -> None:
     made.take(made.record(ISSUER, '/v1/declarations', HEADER, 500, b'Set aside\n'))
     assert made.acts()[0]['outcome'] == 'set aside'
+
+
+# ------------------------------------------------------------ what waits
+
+def test_what_is_read_ahead_is_bounded_by_its_bytes() -> None:
+    ahead: Ahead[int] = Ahead(100)
+    most = []
+
+    def read() -> None:
+        for thing, size in enumerate((10, 90, 200, 1, 99, 1)):
+            ahead.put(thing, size)
+            most.append(ahead.size)
+
+    reader = threading.Thread(target=read)
+    reader.start()
+    reader.join(0.2)
+    assert ahead.size == 100
+    assert [ahead.get(5) for _ in range(6)] == [0, 1, 2, 3, 4, 5]
+    reader.join(5)
+    assert max(most) <= 200
+    assert ahead.get(0.01) is None
