@@ -301,7 +301,8 @@ def told(database, viewer, row, most):
     ranges = rows(database, f'''SELECT moved.first, moved.last, moved.last - moved.first + 1 AS count, moved.lot, moved.account, moved.from_account, PLACE(moved.kind) AS place FROM moved
                                 WHERE moved.act = ? AND ({own_from[0]} OR {own_to[0]}) ORDER BY moved.first''', (row['id'], *own_from[1], *own_to[1]))
     parties = {name: row[name] for name in ('giver', 'taker') if row[name]}
-    return {**row, **{name: party(database, number) for name, number in parties.items()}, 'count': sum(span['count'] for span in ranges), 'ranges': joined(ranges)[:most], 'ranges_in_all': len(joined(ranges))}
+    longest = joined(ranges)
+    return {**row, **{name: party(database, number) for name, number in parties.items()}, 'count': sum(span['count'] for span in ranges), 'ranges': longest[:most], 'ranges_in_all': len(longest)}
 
 
 def joined(ranges):

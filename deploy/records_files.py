@@ -9,9 +9,9 @@ NUMBERS = ('first', 'last')
 """Members that are numbers of certificates."""
 FORMULA = ('=', '+', '-', '@', '\t', '\r')
 """What a cell begins with that a spreadsheet would compute."""
-PARTIES = {'giver': ('giver_account', 'giver_holder', 'giver_name'),
-           'taker': ('taker_account', 'taker_holder', 'taker_name')}
-"""Columns that stand in a file for an account with its holder."""
+PARTIES = ('giver', 'taker')
+"""Members that are an account with its holder, or none."""
+PARTY = ('account', 'holder', 'name')
 PART = 1 << 16
 """Letters that are sent at once."""
 
@@ -24,35 +24,35 @@ def presented(value: Any) -> Any:
     return [presented(of) for of in value] if isinstance(value, list) else value
 
 
-def cell(value: Any) -> str:
-    """A value as a cell that does no harm in a spreadsheet."""
+def spans(ranges: list[dict[str, Any]]) -> str:
+    """Ranges of certificates in one cell."""
+    return ' '.join(f'{span["first"]:014}-{span["last"]:014}' for span in ranges)
+
+
+def cells(name: str, value: Any) -> list[Any]:
+    """The cells of a column: one, or those of an account with its holder. None of them does harm
+    in a spreadsheet."""
+    if isinstance(value, str):
+        return [f"'{value}"] if value.startswith(FORMULA) else [value]
+    if name in PARTIES:
+        return [cell for of in PARTY for cell in cells(of, value and value[of])]
     if isinstance(value, list):
-        return ' '.join(f'{span["first"]}-{span["last"]}' for span in value)
-    text = '' if value is None else str(value)
-    return f"'{text}" if isinstance(value, str) and text.startswith(FORMULA) else text
+        return [spans(value)]
+    return [f'{value:014}'] if name in NUMBERS and value is not None else [value]
 
 
-def flat(row: dict[str, Any]) -> dict[str, Any]:
-    """A row without rows in it: {'giver': {'account': 1}} becomes {'giver_account': 1}."""
-    parts = {name: value for name, value in row.items() if not isinstance(value, dict)}
-    inner = {f'{name}_{part}': value for name, of in row.items() if isinstance(of, dict)
-             for part, value in of.items()}
-    return parts | inner
-
-
-def columns_of(columns: Iterable[str]) -> list[str]:
-    """The columns of a file, which are the same whatever its rows are."""
-    return [part for name in columns for part in PARTIES.get(name, (name,))]
+def heads(name: str) -> list[str]:
+    """What stands above the cells of a column."""
+    return [f'{name}_{of}' for of in PARTY] if name in PARTIES else [name]
 
 
 def csv_of(columns: Iterable[str], rows: Iterable[dict[str, Any]]) -> Iterator[bytes]:
     """The parts of a file, each made when it is asked for."""
-    names, text = columns_of(columns), io.StringIO()
+    text, names = io.StringIO(), tuple(columns)
     writer = csv.writer(text, lineterminator='\r\n')
-    writer.writerow(names)
+    writer.writerow([head for name in names for head in heads(name)])
     for row in rows:
-        whole = flat(presented(row))
-        writer.writerow([cell(whole.get(name)) for name in names])
+        writer.writerow([cell for name in names for cell in cells(name, row[name])])
         if text.tell() >= PART:
             yield text.getvalue().encode()
             text.seek(0)
