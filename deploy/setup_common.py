@@ -15,7 +15,7 @@ CLOSED = SYSTEMD / 'goo-door.socket.d/closed.conf'
 REPLICA = '/usr/lib/goo/replica-log'
 REPLICA_WORDS = ETC / 'replica.env'
 """There on each of three hosts: the replica's name, and where etcd is."""
-EVERYWHERE = ('goo-registry.socket', 'goo-door.socket', 'goo.service', 'goo-replica.service', 'goo-records.service', 'goo-records-web.socket',
+EVERYWHERE = ('goo-registry.socket', 'goo-door.socket', 'goo.service', 'goo-replica.service', 'goo-records.service', 'goo-records-web.socket', 'goo-records-verify.socket',
               'goo-backup.timer', 'goo-watch.timer', 'goo-health.timer', 'goo-prune.timer', 'goo-records-check.timer')
 """What runs on each host, in the order in which it is started."""
 ON_ONE, LEADER = 'goo-advance.timer', 'h1'

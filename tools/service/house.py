@@ -8,8 +8,9 @@ paths and ports changed. Several houses may stand side by side.
         country = house.make_country()
         answer = house.ask('anna', 'GET', f'/v1/accounts/{country.sun}/statement')
 
-A part is one of 'nginx', 'log', 'registry', 'records' (which makes the book) and 'web' (which
-answers from the book). Nothing starts a part anew that has ended: a trial does, by `start`.
+A part is one of 'nginx', 'log', 'registry', 'records' (which makes the book), 'web' (which answers
+from the book) and 'verify' (which checks documents by it). Nothing starts a part anew that has
+ended: a trial does, by `start`.
 """
 import datetime
 import json
@@ -40,7 +41,7 @@ CODE = 7
 DAY = '2025-03-01'
 ISSUER = 'ISSUER'
 MORE_USERS = ('audit ISSUER reads', 'meter ISSUER declares')
-PARTS = ('registry', 'log', 'records', 'web', 'nginx')
+PARTS = ('registry', 'log', 'records', 'web', 'verify', 'nginx')
 """In the order in which they are started."""
 RATE = 1000
 """Requests a second by the limits of the front door, unless a house has them as shipped."""
@@ -121,7 +122,7 @@ class House:
                  changes: Iterable[tuple[str, str]] = (), parts: Iterable[str] = PARTS) -> None:
         self.day, self.deploy, self.begun = day, deploy, tuple(parts)
         self.door = loopback.Place(day, rate, changes=changes, more=MORE_USERS, cost=4)
-        self.door.deploy = deploy
+        self.door.deploy, self.door.verify = deploy, 'verify.sock'
         self.goo = str(Path(self.door.goo).resolve())
         self.users: dict[str, str] = {user: word for user, (_, word) in self.door.users.items()}
         """The password of each user."""
@@ -187,18 +188,24 @@ class House:
     def lay_parts(self) -> None:
         begun = ['--begun', str(CODE), self.day, '1',
                  '--archive', str(self.state / 'archive'), '--into', str(self.book)]
-        door, web = self.folder / 'door.sock', self.folder / 'web.sock'
+        door = self.folder / 'door.sock'
         listen = ['--listen', str(door), '--store', str(self.state / 'log'), '--name', 'house']
         self.add('registry', lambda: self.unit('goo.service'),
                  lambda _: client.is_open(self.registry_port))
         self.add('log', lambda: [*self.unit('goo-replica.service'), *listen], self.log_takes)
         self.add('records', lambda: [*self.unit('goo-records.service'), *begun], self.is_made)
-        self.add('web', lambda: [*self.unit('goo-records-web.service'), '--bind', f'unix:{web}'],
-                 lambda _: client.is_open(web),
-                 GOO_RECORDS=str(self.book), GOO_EXCHANGE=str(self.book / 'exchange.json'))
+        self.add_web('web')
+        self.add_web('verify')
         self.add('nginx', lambda: [str(word) for word in self.door.nginx_words()],
                  lambda _: client.is_open(self.port))
         self.parts['nginx'].before = self.clear_desk
+
+    def add_web(self, name: str) -> None:
+        """A part that answers from the book, at a socket of its own."""
+        unit, path = f'goo-records-{name}.service', self.folder / f'{name}.sock'
+        self.add(name, lambda: [*self.unit(unit), '--bind', f'unix:{path}'],
+                 lambda _: client.is_open(path),
+                 GOO_RECORDS=str(self.book), GOO_EXCHANGE=str(self.book / 'exchange.json'))
 
     def add(self, name: str, words: Any, is_there: Any, **environment: str) -> None:
         self.parts[name] = Part(name, words, is_there, self.folder, self.guard, environment)
