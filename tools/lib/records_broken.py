@@ -13,7 +13,7 @@ AT = 300
 """The entry that is spoiled."""
 SPOILED = {
     'an entry is missing': (lambda lines: lines[:AT - 1] + lines[AT:], f'entry {AT + 1} stands after entry {AT - 1}'),
-    'the first entries are missing': (lambda lines: lines[9:], 'after entry 0: entry 10 comes next'),
+    'the first entries are missing': (lambda lines: lines[9:], 'begins with entry 10, and the book would begin with entry 1'),
     'a line is torn in the middle': (lambda lines: [*lines[:AT - 1], lines[AT - 1][:len(lines[AT - 1]) // 2], *lines[AT:]], f'after entry {AT - 1}: a line that is no entry'),
     'a line is no entry at all': (lambda lines: [*lines[:AT - 1], b'nonsense', *lines[AT:]], f'after entry {AT - 1}: a line of the archive that is no entry'),
     'two entries have changed places': (lambda lines: [*lines[:AT - 1], lines[AT], lines[AT - 1], *lines[AT + 1:]], f'entry {AT + 1} stands after entry {AT - 1}'),
