@@ -300,9 +300,9 @@ def told(database, viewer, row, most):
     own_from, own_to = viewer.of_accounts('moved.from_account'), viewer.of_accounts('moved.account')
     ranges = rows(database, f'''SELECT moved.first, moved.last, moved.last - moved.first + 1 AS count, moved.lot, moved.account, moved.from_account, PLACE(moved.kind) AS place FROM moved
                                 WHERE moved.act = ? AND ({own_from[0]} OR {own_to[0]}) ORDER BY moved.first''', (row['id'], *own_from[1], *own_to[1]))
-    parties = {name: row[name] for name in ('giver', 'taker') if row[name]}
+    parties = {name: row[name] and party(database, row[name]) or None for name in ('giver', 'taker')}
     longest = joined(ranges)
-    return {**row, **{name: party(database, number) for name, number in parties.items()}, 'count': sum(span['count'] for span in ranges), 'ranges': longest[:most], 'ranges_in_all': len(longest)}
+    return {**row, **parties, 'count': sum(span['count'] for span in ranges), 'ranges': longest[:most], 'ranges_in_all': len(longest)}
 
 
 def joined(ranges):

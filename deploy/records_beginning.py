@@ -16,8 +16,8 @@ import records_door
 from records_book import Mismatch
 
 CONF = '/etc/goo/records.conf'
-AGAIN = (f'Where the registry had records before its log, {CONF} has to name the copy that was made '
-         'when the log was begun: GOO_RECORDS_BEGIN=--copy COPY (RECORDS.md, "Running it")')
+AGAIN = (f'Where the registry had records before its log, {CONF} has to name the copy that was '
+         'made when the log was begun: GOO_RECORDS_BEGIN=--copy COPY (RECORDS.md, "Running it")')
 """What to do where a beginning may be the wrong one."""
 PATIENCE = 10
 """Seconds in which the registry answers, or is asked later."""

@@ -1,4 +1,4 @@
-"""Lists of the records as they are sent: numbers of certificates in 14 digits, and CSV row by row."""
+"""Lists as they are sent: numbers of certificates in 14 digits, and CSV row by row."""
 import csv
 import io
 from collections.abc import Iterable

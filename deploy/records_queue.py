@@ -1,4 +1,4 @@
-"""What one thread reads ahead for another, bounded by its bytes and not by how many things it is."""
+"""What one thread reads ahead for another, bounded by its bytes and not by its number."""
 import collections
 import threading
 from dataclasses import dataclass

@@ -1,4 +1,4 @@
-"""The book of acts: what any user may send leaves a book, and one in proportion to what was sent."""
+"""The book of acts: whatever a user may send leaves a book, in proportion to what was sent."""
 import random
 import threading
 from pathlib import Path
@@ -44,13 +44,14 @@ def test_tables_are_read_as_the_documents_say() -> None:
         assert list(tables.records_in(table)) == readings.records_in(table), table
 
 
+DIGITS = b'9' * 5000
 LONGEST = {
     'one field': b'a' * (MOST - len(HEADER)),
     'one field in quotes': b'"' + b'a' * (MOST - len(HEADER) - 1),
     'a field of quotes': b'"' * (MOST - len(HEADER)),
     'one row of many fields': b',' * (MOST - len(HEADER)),
-    'more digits than Python turns into a number': row('d', 2).replace(b',1,', b',' + b'9' * 5000 + b','),
-    'every byte value': b''.join(b'%b,"%b"\n' % (bytes([value]), bytes([value])) for value in range(256)),
+    'more digits than Python turns into a number': row('d', 2).replace(b',1,', b',%b,' % DIGITS),
+    'every byte value': b''.join(b'%b,"%b"\n' % ((bytes([value]),) * 2) for value in range(256)),
     'a field that csv refuses': b'a' * 131_073 + b',b\n',
 }
 
@@ -142,8 +143,8 @@ def test_lines_of_one_act_are_few(made: Made) -> None:
 SMALL = [bytes([value]) * 3 for value in range(256)] + [
     b'\xef\xbb\xbf{}', b'{"a":NaN}', b'{"command":["cancel"],"key":{}}', b'{"a":1e999}',
     b'{"command":"open_holder","key":"\\ud800"}', '{"command":"cancel","key":"k"}'.encode('utf-16')]
-LONG = [b'[' * (MOST // 2), b'{"command":' * 90_000, b'"' + b'\\u0000' * 170_000 + b'"', b'9' * MOST,
-        b'{"command":"cancel","key":"%b"}' % (b'k' * 1_000_000)]
+LONG = [b'[' * (MOST // 2), b'{"command":' * 90_000, b'"' + b'\\u0000' * 170_000 + b'"',
+        b'9' * MOST, b'{"command":"cancel","key":"%b"}' % (b'k' * 1_000_000)]
 BODIES = [*SMALL, *LONG]
 
 

@@ -52,14 +52,18 @@ def test_a_parameter_that_is_given_twice_is_named(made: Made) -> None:
 
 @pytest.mark.parametrize(('path', 'name'), [
     ('acts?limit=0', 'limit'), ('acts?limit=-1', 'limit'), ('acts?limit=x', 'limit'),
-    ('acts?limit=%s' % ('9' * 5000), 'limit'), ('acts?limit=٣', 'limit'), ('acts?before=x', 'before'),
+    ('acts?limit=%s' % ('9' * 5000), 'limit'), ('acts?limit=٣', 'limit'),
+    ('acts?before=x', 'before'),
     ('acts?kind=issues', 'kind'), ('acts?outcome=ok', 'outcome'), ('acts?peer=nine', 'peer'),
     ('acts?number=one', 'number'), ('acts?account=SUN', 'account'), ('acts?format=xml', 'format'),
-    ('holdings?limit=0', 'limit'), ('holdings?offset=-1', 'offset'), ('holdings?tradable=maybe', 'tradable'),
+    ('holdings?limit=0', 'limit'), ('holdings?offset=-1', 'offset'),
+    ('holdings?tradable=maybe', 'tradable'),
     ('holdings?account=one', 'account'), ('accounts?account=one', 'account'),
-    ('cancellations?number=one', 'number'), ('notices?peer=nine', 'peer'), ('accounts?limit=0', 'limit'),
+    ('cancellations?number=one', 'number'), ('notices?peer=nine', 'peer'),
+    ('accounts?limit=0', 'limit'),
     ('holders?limit=0', 'limit'), ('withdrawals?limit=0', 'limit'), ('deadlines?limit=0', 'limit'),
-    ('statistics?by=month,month', 'by'), ('statistics?limit=0', 'limit'), ('deadlines?days=-1', 'days'),
+    ('statistics?by=month,month', 'by'), ('statistics?limit=0', 'limit'),
+    ('deadlines?days=-1', 'days'),
     ('choice?account=1&count=1&act=give', 'act'), ('choice?account=1&count=1&order=best', 'order'),
     ('documents?numbers=', 'numbers'), ('documents', 'numbers')])
 def test_a_value_that_cannot_be_read_is_named(made: Made, path: str, name: str) -> None:
@@ -139,7 +143,7 @@ HEAD = {'GOO-Caller': ISSUER}
 
 def test_a_question_ends_when_its_time_is_over(made: Made) -> None:
     client = slow_client(made, question=-1)
-    for path in ('acts', 'holdings', 'statistics', 'acts/1', 'certificates/7000000000001', 'status'):
+    for path in ('acts', 'holdings', 'acts/1', ROUTES['certificates/NUMBER'], 'status'):
         answer = client.get(f'/records/v1/{path}', headers=HEAD)
         assert answer.status_code == 503
         assert 'takes longer than' in answer.get_json()['error']
