@@ -110,7 +110,7 @@ async function one({command, fields}, {own, key}) {
   const item = {key, command, path: '/v1/requests', body: bodyOf(command, key, {...fields, ...own})};
   for (let tries = 60; ; tries--) {
     const outcome = await send(session.caller, item);
-    if (outcome.status !== 429 || tries === 0) return outcome;
+    if (!outcome.again || tries === 0) return outcome;
     await pause(1000);
   }
 }

@@ -2,12 +2,14 @@
 // expected. deploy/check-declarations does the same by the same rules; tools/trials/declarations holds the two, and the
 // registry's own answers, against each other.
 
-import {t} from './language.js';
+import {language, t} from './language.js';
 import {csv} from './texts.js';
 
 export const HEADER = 'key,device,first_day,last_day,gross_wh,aux_wh';
 const FIELDS = {key: 'key', device: 'gsrn', first_day: 'day', last_day: 'day', gross_wh: 'wh', aux_wh: 'wh'};
 const MOST_WH = 1e15;
+/** The rows of a table that the log in front of the registry takes: ROWS of deploy/bounds.py. */
+const MOST_ROWS = 21_000;
 const SHORTENED = /^[+-]?[0-9]+([.,][0-9]+)?[eE][+-]?[0-9]+$/;
 const EXPECTED = {
   key: t`Expected 1 to 40 characters: letters A to Z, digits, and - _ . : are allowed.`,
@@ -84,6 +86,8 @@ function orderFaults([key, device, first], keys, ends) {
   return faults;
 }
 
+const said = (n) => n.toLocaleString(language);
+
 /** What is wrong with the first record; '' where it is the header. */
 function headerFault(header) {
   const text = header.join();
@@ -98,6 +102,7 @@ export function readDeclarations(text) {
   const [header = [], ...rows] = csv(text);
   const wrong = headerFault(header);
   if (wrong) return {rows, faults: [{row: 0, field: 'header', reason: wrong}]};
+  if (rows.length > MOST_ROWS) return {rows, faults: [{row: 0, field: 'file', reason: t`It has ${said(rows.length)} rows. Expected at most ${said(MOST_ROWS)}: split it, each part with the header.`}]};
   const faults = [], keys = new Map(), ends = new Map();
   rows.forEach((fields, i) => {
     const own = rowFaults(fields), found = own.length ? own : orderFaults(fields, keys, ends);

@@ -18,11 +18,27 @@ export async function findRecords() {
   try { records.isThere = (await fetch(pathOf('status'), {cache: 'no-store', signal: AbortSignal.timeout(20_000)})).ok; } catch { records.isThere = false; }
 }
 
+/** Questions that the front door lets a user ask at once. */
+const AT_ONCE = 2;
+const turns = [];                               // those that wait for one before them to be answered
+let asking = 0;
+
+/** Asks once fewer than two others are under way. */
+async function inTurn(ask) {
+  if (asking === AT_ONCE) await new Promise((goOn) => turns.push(goOn));
+  else asking++;
+  try { return await ask(); } finally { turns.length ? turns.shift()() : asking--; }
+}
+
 /** An answer of the records. A question that they can't answer is thrown, in words. */
-export async function asked(name, parameters, tries = 10) {
-  let answer;
-  try { answer = await fetch(pathOf(name, parameters), {cache: 'no-store'}); } catch { throw new Unread(words.unread(0)); }
-  if (answer.ok) return answer.json();
+export async function asked(name, parameters, tries = 30) {
+  const ask = async () => {
+    const answer = await fetch(pathOf(name, parameters), {cache: 'no-store'});
+    return [answer, answer.ok ? await answer.json() : null];
+  };
+  let answer, found;
+  try { [answer, found] = await inTurn(ask); } catch { throw new Unread(words.unread(0)); }
+  if (answer.ok) return found;
   if (answer.status === 429 && tries > 1) {
     await pause(1000);
     return asked(name, parameters, tries - 1);

@@ -195,7 +195,11 @@ export const WORDS = {
   'The text is not JSON.': 'Der Text ist kein JSON.', 'The request does not have exactly the fields it needs, each of the right kind.': 'Der Antrag hat nicht genau die Felder, die er braucht, jedes von der richtigen Art.',
   'A field has a value that the registry does not accept.': 'Ein Feld hat einen Wert, den das Register nicht annimmt.',
   'The file must begin with the line key,device,first_day,last_day,gross_wh,aux_wh, separated by commas.': 'Die Datei muss mit der Zeile key,device,first_day,last_day,gross_wh,aux_wh beginnen, durch Kommas getrennt.',
-  'At most 1,048,576 bytes can be sent at once; nothing was done.': 'Höchstens 1.048.576 Byte lassen sich auf einmal senden; nichts wurde ausgeführt.',
+  'At most 1,048,576 bytes can be sent at once, 65,536 in a request of a holder, and 21,000 rows in a table; nothing was done.':
+    'Höchstens 1.048.576 Byte lassen sich auf einmal senden, 65.536 in einem Antrag eines Inhabers und 21.000 Zeilen in einer Tabelle; nichts wurde ausgeführt.',
+  'It has {} rows. Expected at most {}: split it, each part with the header.': 'Sie hat {} Zeilen. Erwartet werden höchstens {}: Teilen Sie die Datei, jeden Teil mit der Kopfzeile.',
+  'Too much for one day': 'Zu viel für einen Tag', 'The service says: “{}”. The request is kept: send it again in {} hours.': 'Der Dienst sagt: „{}“. Der Antrag ist aufgehoben: Senden Sie ihn in {} Stunden noch einmal.',
+  'The service says: “{}”. Nothing was done.': 'Der Dienst sagt: „{}“. Nichts wurde ausgeführt.',
   'The row does not have six readable fields.': 'Die Zeile hat keine sechs lesbaren Felder.', 'This page does not know this refusal.': 'Diese Seite kennt diese Ablehnung nicht.',
   'This page does not know this answer.': 'Diese Seite kennt diese Antwort nicht.', 'This page has a fault': 'Diese Seite hat einen Fehler',
   'Load it again; if it stays so, tell the issuing body: {}': 'Laden Sie sie neu; bleibt es so, sagen Sie es der ausstellenden Stelle: {}', 'Declared.': 'Gemeldet.',

@@ -250,6 +250,15 @@ def test_right_password_is_compared_once() -> None:
         assert {line['caller'] for line in lines_of_log(place)} == {'SUN', 'VOLT'}
 
 
+def test_wrong_password_is_wrong_beside_a_right_one() -> None:
+    with Place(rate=FAST, cost=4) as place:
+        assert statuses(place, 1, 'anna') + statuses(place, 2, 'anna', 'pw-bela') == [404, 401, 401]
+        assert statuses(place, 1, 'anna') + statuses(place, 1, 'bela', 'pw-anna') == [404, 401]
+        for word in ('Basic', 'Basic !', 'Bearer pw-anna', f'basic{client.basic("anna", "pw-anna")}'):
+            assert ask(place, 'GET', '/', Authorization=word).status == 401
+        assert ask(place, 'GET', '/').status == 401
+
+
 def test_wrong_passwords_have_a_limit_of_their_own() -> None:
     with Place(changes=FEW_COMPARISONS, cost=4) as place:
         got = [
@@ -448,7 +457,7 @@ def test_each_line_of_the_log_is_json() -> None:
 
 
 def test_method_is_logged_as_it_was_sent(place: Place) -> None:
-    sent(place, request('POST', '/v1/audit', 'anna', body=b'{}', X_Long='y' * 9000))
+    sent(place, request('POST', '/v1/audit', 'anna', body=b'{}', host='other'))
     ask(place, 'POST', '/v1/audit', 'anna', 'wrong', body=b'{}')
     client.comes(lambda: lines_of_log(place)[-1]['status'] == '401', 10)
     assert [(line['method'], line['status']) for line in lines_of_log(place)[-2:]] == [
