@@ -3,13 +3,16 @@
 What each part has of it is read from the part's own files, as json and by no module of deploy/.
 """
 import json
+import re
 from concurrent.futures import ThreadPoolExecutor
 from pathlib import Path
 from typing import Any
 
 import client
-import loopback
 import pytest
+from disk import RECEIVES
+from disk import read_trace
+from disk import watch
 from house import PARTS
 from house import Answer
 from house import House
@@ -195,8 +198,9 @@ def test_what_a_visitor_says_of_himself_counts_nothing(house: House, name: str) 
 def test_the_log_knows_roles_by_itself(house: House, role: str, method: str, path: str) -> None:
     """What reaches its socket past the front door is held to the role too."""
     body = '' if method == 'GET' else OPENS if path == '/v1/requests' else TABLE
+    before = house.entry()
     assert house.ask_log('ISSUER', method, path, body, role=role).status == 403
-    assert 'MAY' not in house.ask('office', 'GET', '/records/v1/holders').text
+    assert house.entry() == before
 
 
 # -------------------------------------------------------------------- parts that end
@@ -257,19 +261,13 @@ def test_a_copy_is_made_recounted_and_verified(own_house: House) -> None:
 # -------------------------------------------------------------------- once each
 
 def test_the_registry_is_asked_once_for_each_entry(own_house: House) -> None:
-    """Between log and registry each write is seen as often as it is sent: once."""
-    relay = loopback.Relay(own_house.registry_port)
-    log = own_house.parts['log']
-    words = log.words
-    own, other = str(own_house.registry_port), str(relay.port)
-    log.words = lambda: [word.replace(f'127.0.0.1:{own}', f'127.0.0.1:{other}') for word in words()]
-    own_house.restart('log')
-    relay.heads.clear()
+    """strace sees what the registry receives: each write as often as it is sent, which is once."""
     own_house.make_country()
-    with ThreadPoolExecutor(4) as pool:
+    registry, trace = own_house.parts['registry'].processes(), own_house.folder / 'received'
+    with watch(registry, trace, calls=RECEIVES), ThreadPoolExecutor(4) as pool:
         keys = [f'once-{at}' for at in range(40)]
         answers = list(pool.map(lambda key: send_until_answered(own_house, key), keys))
     assert [answer.json['outcome'] for answer in answers] == ['accepted'] * len(keys)
-    sent = [head for head in relay.heads if head.startswith('POST')]
-    country = 6
-    assert len(sent) == len(keys) + country
+    came = b''.join(text for call in read_trace(trace) for text in call.texts)
+    assert came.count(b'POST /v1/requests ') == len(keys)
+    assert sorted(re.findall(rb'once-\d+', came)) == sorted(key.encode() for key in keys)
