@@ -19,6 +19,7 @@ from pathlib import Path
 CHANGES = ('write', 'writev', 'pwrite64', 'pwritev', 'ftruncate', 'fallocate', 'openat', 'rename',
            'renameat', 'renameat2', 'unlink', 'unlinkat', 'fsync', 'fdatasync', 'sync_file_range')
 SENDS = ('sendto', 'sendmsg')
+RECEIVES = ('read', 'readv', 'recvfrom', 'recvmsg')
 LINE = re.compile(r'(\d+) +(\d+\.\d+) (.*)')
 CALL = re.compile(r'(\w+)\((.*)\) += (.*)')
 TOOK = re.compile(r'(.*) <(\d+\.\d+)>')
@@ -222,7 +223,8 @@ class Unseen(Exception):
 
 
 @contextlib.contextmanager
-def watch(processes: Iterable[int], trace: Path, slow: float = 0) -> Iterator[None]:
+def watch(processes: Iterable[int], trace: Path, *, slow: float = 0,
+          calls: Iterable[str] = (*CHANGES, *SENDS)) -> Iterator[None]:
     """strace over these processes. With `slow` each sync takes so many seconds longer.
 
     It ends when they have ended, and has ended behind the `with`.
@@ -232,7 +234,7 @@ def watch(processes: Iterable[int], trace: Path, slow: float = 0) -> Iterator[No
     late = f'inject=fsync,fdatasync:delay_enter={int(slow * 1e6)}'
     tracer = subprocess.Popen(
         ['strace', '-f', '-y', '-ttt', '-T', '-xx', '-s', str(1 << 21), '-o', str(trace),
-         '-e', f'trace={",".join([*CHANGES, *SENDS])}', *(['-e', late] if slow else []), *attach],
+         '-e', f'trace={",".join(calls)}', *(['-e', late] if slow else []), *attach],
         stderr=subprocess.PIPE, stdin=subprocess.DEVNULL, text=True)
     try:
         while not all(is_traced(pid) for pid in pids):

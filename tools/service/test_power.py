@@ -138,7 +138,7 @@ def load(house: House, seed: int) -> Load:
     seen = Load(house, Disk([house.state, house.db.parent]))
     log, registry = house.folder / 'log.trace', house.folder / 'registry.trace'
     parts = house.parts
-    with (watch(parts['log'].processes(), log, SLOW),
+    with (watch(parts['log'].processes(), log, slow=SLOW),
           watch(parts['registry'].processes(), registry), ThreadPoolExecutor(CLIENTS) as pool):
         seen.asked += [ask(house, request) for request in alone]
         seen.asked += pool.map(lambda request: ask(house, request), rest)
