@@ -4,13 +4,10 @@ import datetime
 import io
 import json
 import random
-import sys
 import time
-from pathlib import Path
 
 import pytest
 
-sys.path.insert(0, str(Path(__file__).resolve().parents[2] / 'deploy'))
 import bounds
 
 TODAY = datetime.date(2026, 3, 1)
