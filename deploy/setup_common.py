@@ -16,7 +16,7 @@ REPLICA = '/usr/lib/goo/replica-log'
 REPLICA_WORDS = ETC / 'replica.env'
 """There on each of three hosts: the replica's name, and where etcd is."""
 EVERYWHERE = ('goo-registry.socket', 'goo-door.socket', 'goo.service', 'goo-replica.service', 'goo-records.service', 'goo-records-web.socket',
-              'goo-backup.timer', 'goo-watch.timer', 'goo-health.timer', 'goo-prune.timer', 'goo-records-check.timer')
+              'goo-backup.timer', 'goo-watch.timer', 'goo-health.timer', 'goo-units.timer', 'goo-doctor.timer', 'goo-prune.timer', 'goo-records-check.timer')
 """What runs on each host, in the order in which it is started."""
 ON_ONE, LEADER = 'goo-advance.timer', 'h1'
 """What runs on one of three hosts alone, and on which."""
