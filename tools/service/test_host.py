@@ -1,11 +1,10 @@
 """The host around the registry: units, set-up, upgrade, exchange, certificates, and what root touches."""
-import configparser
 import itertools
 import json
-import os
-import re
+import signal
 import subprocess
 import sys
+import time
 from collections.abc import Iterator
 from pathlib import Path
 from types import SimpleNamespace
@@ -14,10 +13,14 @@ import pytest
 
 TOP = Path(__file__).resolve().parents[2]
 DEPLOY = TOP / 'deploy'
-sys.path.insert(0, str(DEPLOY))
+for place in (DEPLOY, TOP / 'tools/service'):
+    sys.path.insert(0, str(place))
 
-import exchange_visit           # noqa: E402
-from exchange_outbox import Outbox          # noqa: E402
+import exchange_visit
+from exchange_outbox import Outbox
+from host_stage import Done
+from host_stage import Stage
+from host_stage import script_of
 
 DEVICE = '500000000000000029'
 OCTOBER = {'first_day': '2024-10-01', 'last_day': '2024-10-31'}
@@ -129,3 +132,159 @@ def test_the_state_of_the_exchange_may_be_read_in_part(tmp_path: Path) -> None:
     done = closed_early(DEPLOY / 'exchange', '--folder', tmp_path, '--state')
     assert 'Traceback' not in done.stderr and 'Broken' not in done.stderr, done.stderr
     assert done.returncode == 0
+
+
+# ------------------------------------------------------------------ the stage
+
+@pytest.fixture(scope='module')
+def whole_stage() -> Iterator[Stage]:
+    with Stage(TOP) as stage:
+        yield stage
+
+
+PREPARED = '''
+rm -rf /var/lib/goo* /etc/goo /run/goo /run/goo-upgrade /run/stage/active /run/stage/restarts* /var/backups/goo
+rm -rf /etc/systemd/system/goo* /run/stage/refuses* /run/stage/enabled* /usr/lib/goo/goo.before /usr/lib/goo/goo.refused
+mkdir -p /run/goo /run/stage/active /var/backups/goo /etc/goo /etc/nginx
+cp -a /usr/lib/goo/nginx/goo.conf /etc/nginx/
+for pair in goo:goo goo-exchange:goo-agent goo-replica:goo-replica goo-records:goo-records goo-etcd:goo-etcd; do
+    install -d -m 750 -o ${pair#*:} -g ${pair#*:} /var/lib/${pair%:*}
+done
+openssl rand -hex 32 > /etc/goo/replica.key
+chown goo-replica /etc/goo/replica.key
+chmod 400 /etc/goo/replica.key
+: > /run/stage/openings
+: > /run/stage/calls
+'''
+RUNS = ('goo-door.socket', 'goo.service', 'goo-replica.service', 'goo-registry.socket', 'goo-backup.timer')
+
+
+@pytest.fixture
+def stage(whole_stage: Stage) -> Stage:
+    """A host with the users and the empty folders of the package."""
+    whole_stage.shell(PREPARED)
+    whole_stage.program('1.0.0')
+    return whole_stage
+
+
+# ------------------------------------------------------------------ a new version
+
+@pytest.fixture
+def registry(stage: Stage) -> Iterator[Stage]:
+    """A registry of version 1.0.0 that runs behind its log."""
+    stage.shell('setpriv --reuid=goo --regid=goo --clear-groups goo init --db /var/lib/goo/registry.db\n'
+                '/usr/lib/goo/replica-log found\n'
+                'mkdir -p /etc/systemd/system/goo-door.socket.d\n'
+                'touch /etc/systemd/system/goo-door.socket.d/replica.conf\n'
+                f'systemctl start {" ".join(RUNS)}\n: > /run/stage/openings')
+    door = stage.begin('/usr/bin/python3', '/usr/lib/stage/door.py')
+    for _ in range(100):
+        if is_well(stage):
+            break
+        time.sleep(0.05)
+    assert is_well(stage)
+    yield stage
+    stage.shell('kill "$(cat /run/stage/door.pid)"')
+    door.wait(10)
+
+
+def is_well(stage: Stage) -> bool:
+    """Whether the registry takes requests."""
+    words = ('curl', '-s', '--max-time', '5', '-o', '/dev/null', '-w', '%{http_code}', '--unix-socket',
+             '/run/goo/door.sock', 'http://localhost/healthz')
+    return stage.run(*words).out == '200'
+
+
+def unpack(stage: Stage, tables: int = 2, more: str = '') -> None:
+    """What dpkg does with a new package up to its postinst."""
+    for name in ('preinst', 'postinst'):
+        stage.put(f'/run/stage/{name}', script_of(TOP / 'tools/package', name), 0o755)
+    done = stage.run('/run/stage/preinst', 'upgrade', '1.0.0')
+    assert done.status == 0, done
+    stage.program('1.1.0', tables, more)
+
+
+def configure(stage: Stage) -> Done:
+    return stage.run('/run/stage/postinst', 'configure', '1.0.0')
+
+
+def version(stage: Stage) -> str:
+    return stage.run('goo', '--version').out.strip()
+
+
+def test_a_new_version_opens_the_file_once(registry: Stage) -> None:
+    unpack(registry)
+    done = configure(registry)
+    assert done.status == 0, done
+    assert registry.lines('/run/stage/openings') == ['serve']
+    assert set(RUNS) <= registry.active() and is_well(registry)
+    assert version(registry) == 'goo 1.1.0' and 'the version is goo 1.1.0' in done.out
+    assert not registry.run('ls', '/usr/lib/goo/goo.before', '/run/goo-upgrade').out
+    assert {'goo-units.timer', 'goo-doctor.timer'} <= registry.active(), 'what is new is started'
+
+
+def test_a_stop_puts_the_log_into_the_database(registry: Stage) -> None:
+    registry.shell('systemctl stop goo.service')
+    assert registry.lines('/run/stage/openings') == ['run']
+
+
+@pytest.mark.parametrize(('result', 'code'), [('signal', 'killed'), ('exit-code', 'exited'),
+                                              ('success', 'exited'), ('oom-kill', 'killed')])
+def test_a_registry_that_is_started_again_is_opened_once(registry: Stage, result: str, code: str) -> None:
+    registry.shell(f'SERVICE_RESULT={result} EXIT_CODE={code} '
+                   '/usr/lib/goo/close-database /var/lib/goo/registry.db')
+    assert registry.lines('/run/stage/openings') == []
+
+
+@pytest.mark.parametrize('fault', ['no key of the log', 'tables of another version',
+                                   'a program that does not run', 'a program that crashes'])
+def test_a_version_that_does_not_take_over_leaves_the_one_of_before(registry: Stage, fault: str) -> None:
+    if fault == 'no key of the log':
+        registry.shell('mv /etc/goo/replica.key /etc/goo/kept')
+    unpack(registry, 3 if fault == 'tables of another version' else 2,
+           'exit 3;' if fault == 'a program that does not run' else
+           ': CRASHES;' if fault == 'a program that crashes' else '')
+    if fault == 'a program that crashes':
+        registry.put('/run/stage/restarts-goo.service', '5\n')
+    done = configure(registry)
+    assert done.status != 0, done
+    assert set(RUNS) <= registry.active(), done
+    assert version(registry) == 'goo 1.0.0' and is_well(registry), done
+    assert 'dpkg --configure goo' in done.err, done
+    registry.shell('[ ! -e /etc/goo/kept ] || mv /etc/goo/kept /etc/goo/replica.key')
+    registry.shell('rm -f /run/stage/restarts-goo.service')
+    if registry.run('ls', '/usr/lib/goo/goo.refused').out:
+        registry.shell('sed -i "s/exit 3;//; s/: CRASHES;//; s/VALUES (3,/VALUES (2,/; s/= 3 /= 2 /" '
+                       '/usr/lib/goo/goo.refused')
+    done = configure(registry)
+    assert done.status == 0 and version(registry) == 'goo 1.1.0' and is_well(registry), done
+
+
+@pytest.mark.parametrize('number', [signal.SIGKILL, signal.SIGTERM, signal.SIGHUP])
+def test_a_set_up_that_is_ended_half_way_leaves_what_ran(registry: Stage, number: int) -> None:
+    unpack(registry, more='[ -e /run/stage/goes-on ] || { touch /tmp/waits; sleep 30; };')
+    registry.shell('rm -f /tmp/waits')
+    begun = registry.begin('/usr/sbin/goo-setup', 'upgraded')
+    for _ in range(200):
+        if registry.run('ls', '/tmp/waits').out:
+            break
+        time.sleep(0.05)
+    assert 'goo.service' not in registry.active(), 'the registry is stopped by now'
+    pid = registry.shell('pgrep -f "goo-setup upgraded"').out.split()[0]
+    registry.shell(f'kill -{int(number)} {pid}; touch /run/stage/goes-on')
+    begun.wait(60)
+    assert begun.returncode != 0
+    if number != signal.SIGKILL:
+        assert set(RUNS) <= registry.active() and is_well(registry), begun.stderr.read()
+    done = configure(registry)
+    registry.shell('rm /run/stage/goes-on')
+    assert done.status == 0 and set(RUNS) <= registry.active() and is_well(registry), done
+    assert version(registry) == 'goo 1.1.0'
+
+
+def test_a_host_of_three_waits_for_its_renewal(registry: Stage) -> None:
+    registry.put('/etc/goo/replica.env', 'REPLICA_WORDS=--name h1 --code 7 --etcd https://192.0.2.1:2379\n')
+    unpack(registry)
+    done = configure(registry)
+    assert done.status == 0 and 'goo-setup renew' in done.out, done
+    assert registry.lines('/run/stage/openings') == []
