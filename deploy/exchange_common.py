@@ -4,11 +4,12 @@ import functools
 import hashlib
 import json
 import os
+import sys
 
 MOST = 10000                    # notices a run and a direction
 LARGEST = 1048576               # bytes of an answer; no notice comes near
 
-Part = collections.namedtuple('Part', 'first last origin')
+Part = collections.namedtuple('Part', 'first last origin lot', defaults=({},))
 
 
 class Again(Exception):
@@ -31,7 +32,7 @@ def read_notice(text):
     """The notice of this text. Refused where it is none."""
     try:
         of = json.loads(text)
-        parts = [Part(int(part['first']), int(part['last']), part['lot']['origin']) for part in of['parts']]
+        parts = [Part(int(part['first']), int(part['last']), part['lot']['origin'], part['lot']) for part in of['parts']]
         notice = Notice(text, of['sender'], of['addressee'], of['number'], of['account'], parts)
     except (ValueError, TypeError, KeyError, RecursionError) as fault:
         raise Refused('NotANotice') from fault
@@ -41,8 +42,11 @@ def read_notice(text):
 
 
 def say(text):
-    """A line for the journal, whole also where several threads write."""
-    print(f'{text}\n', end='', flush=True)
+    """A line for the journal, whole also where several threads write. Where nobody reads any more, the work goes on to its end."""
+    try:
+        print(f'{text}\n', end='', flush=True)
+    except BrokenPipeError:
+        os.dup2(os.open(os.devnull, os.O_WRONLY), sys.stdout.fileno())
 
 
 def write(path, text):

@@ -104,6 +104,13 @@ class Inbox:
         last = next((position for position in range(self.cursor, 0, -1) if str(position) not in apart), 0)
         return (last, self.taken(last)) if last else None
 
+    def imported(self):
+        """The texts of all that was imported, as they were fetched."""
+        apart = {**self.waiting, **self.settled}
+        for position in range(1, self.highest + 1):
+            if str(position) not in apart and (text := self.taken(position)):
+                yield text
+
     def told_to_peer(self):
         """What the peer is told about its own notices."""
         refused = {position: {'became': of['became'], 'settled': settled} for settled, some in ((False, self.waiting), (True, self.settled)) for position, of in some.items()}

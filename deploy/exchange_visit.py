@@ -1,5 +1,8 @@
 """What is done with one peer in one run. Nothing of it waits for another peer."""
+import contextlib
+
 from exchange_common import MOST, Again, Refused, read_notice, say
+from exchange_energy import Energy
 from exchange_inbox import Inbox
 from exchange_outbox import doubt
 
@@ -17,7 +20,7 @@ class Visit:
 
     def __init__(self, ours, peer):
         self.ours, self.peer, self.code = ours, peer, peer.code
-        self.state, self.inbox, self.left = None, None, []
+        self.state, self.inbox, self.left, self.energy = None, None, [], None
 
     def tell(self, text):
         say(f'registry {self.code}, {text}')
@@ -150,14 +153,24 @@ class Visit:
             self.tell(f"notice {notice.number} (position {position}): held, since {of['why']}. Once you know that it is right: exchange --release {self.code} {position}")
             return 'held'
         self.tell(f'notice {notice.number}: {self.ours.registry.take(notice)}, {notice.count} certificates')
+        self.made().take(notice)
         return 'accepted'
 
     def doubt(self, notice):
-        """Why a notice is held, by all that we have sent up to now, published or not."""
+        """Why a notice is held, by all that we have sent up to now, published or not, and by what devices can make."""
         sent = list(self.ours.outbox.sent)
         while text := self.ours.registry.notice(sent[-1].number + 1 if sent else 1):
             sent.append(read_notice(text))
-        return doubt(notice, self.code, self.ours.code, sent)
+        return doubt(notice, self.code, self.ours.code, sent) or self.made().doubt(notice)
+
+    def made(self):
+        """The certificates of each lot of the peer's own devices that were imported up to now."""
+        if self.energy is None:
+            self.energy = Energy(self.code)
+            for text in self.inbox.imported():
+                with contextlib.suppress(Refused):      # a file that was damaged since
+                    self.energy.take(read_notice(text))
+        return self.energy
 
     def tell_waiting(self):
         for position, of in sorted(self.inbox.waiting.items(), key=lambda item: int(item[0])):

@@ -4,20 +4,24 @@ import os
 import pathlib
 import re
 import shutil
-import sqlite3
 import subprocess
 import sys
 
 ETC, SHARE, NGINX, SYSTEMD = map(pathlib.Path, ('/etc/goo', '/usr/share/goo/etc', '/etc/nginx', '/etc/systemd/system'))
 REGISTRY, LOG, BOOK, EXCHANGE, COPIES = map(pathlib.Path, ('/var/lib/goo', '/var/lib/goo-replica', '/var/lib/goo-records', '/var/lib/goo-exchange', '/var/backups/goo'))
 DATABASE, FIRST = REGISTRY / 'registry.db', BOOK / 'first'
+PATH = '/usr/local/sbin:/usr/local/bin:/usr/sbin:/usr/bin:/sbin:/bin'
+LARGEST, SECONDS = 1 << 26, 20
+"""Bytes that are read of a file of a service, and how long its user may take for it."""
 CLOSED = SYSTEMD / 'goo-door.socket.d/closed.conf'
 REPLICA = '/usr/lib/goo/replica-log'
 REPLICA_WORDS = ETC / 'replica.env'
 """There on each of three hosts: the replica's name, and where etcd is."""
 EVERYWHERE = ('goo-registry.socket', 'goo-door.socket', 'goo.service', 'goo-replica.service', 'goo-records.service', 'goo-records-web.socket', 'goo-records-verify.socket',
-              'goo-backup.timer', 'goo-watch.timer', 'goo-health.timer', 'goo-prune.timer', 'goo-records-check.timer')
+              'goo-backup.timer', 'goo-watch.timer', 'goo-health.timer', 'goo-units.timer', 'goo-doctor.timer', 'goo-prune.timer', 'goo-records-check.timer')
 """What runs on each host, in the order in which it is started."""
+NEWER = ('goo-records-verify.socket', 'goo-units.timer', 'goo-doctor.timer')
+"""What a registry of an earlier version has not: the new version starts it."""
 ON_ONE, LEADER = 'goo-advance.timer', 'h1'
 """What runs on one of three hosts alone, and on which."""
 LED = ('goo-door.socket', 'goo-door.service', 'goo-replica.service', 'goo.service')
@@ -34,6 +38,25 @@ def run(*words, **options):
         return subprocess.run([str(word) for word in words], check=True, capture_output=True, text=True, **options).stdout
     except subprocess.CalledProcessError as fault:
         raise Refused(f'{" ".join(map(str, words))}: {(fault.stderr or fault.stdout).strip() or f"status {fault.returncode}"}') from fault
+
+
+def as_user(user, *words, group=None, **options):
+    """Runs a command as a user of the house, and not as root: what stands below a folder of that user is for that user alone to open.
+
+    The command has no terminal, since whoever shares a terminal with root can type into it, and nothing of root's environment.
+    """
+    reduced = ['setpriv', f'--reuid={user}', f'--regid={group or user}', '--clear-groups', '--no-new-privs', '--', *words]
+    given = {'stdin': subprocess.DEVNULL, 'capture_output': True, 'env': {'PATH': PATH, 'LANG': 'C.UTF-8'}, 'cwd': '/', 'start_new_session': True, 'check': False, **options}
+    return subprocess.run([str(word) for word in reduced], **given)
+
+
+def read_as(user, path, group=None):
+    """The text of a file below a folder of a user; an empty one where it cannot be read at once. A pipe is waited for no longer than some seconds."""
+    try:
+        done = as_user(user, 'head', f'--bytes={LARGEST}', '--', path, group=group, timeout=SECONDS)
+    except subprocess.TimeoutExpired:
+        return ''
+    return done.stdout.decode('utf-8', 'replace') if done.returncode == 0 else ''
 
 
 def says(*words):
@@ -71,10 +94,19 @@ def folder(path, mode, owner='root', group='root'):
         path.chmod(mode)
 
 
+def typed(what, default):
+    """What is typed, or comes by a pipe. Where nothing comes any more, nobody can be asked."""
+    try:
+        return input(f'{what}{f" [{default}]" if default else ""}: ').strip() or default
+    except EOFError as fault:
+        print()
+        raise Refused(f'{what}: it was not given, and nobody answers; goo-setup --help names the options') from fault
+
+
 def asked(given, what, check, default=None):
     """What was given as an option, or is typed. One that can't be used is told."""
     while True:
-        value = given if given is not None else input(f'{what}{f" [{default}]" if default else ""}: ').strip() or default
+        value = given if given is not None else typed(what, default)
         if value is not None and check(value):
             return value
         if given is not None or not sys.stdin.isatty():
@@ -102,15 +134,22 @@ def password_of(given, name):
     return text
 
 
+def meta_of(database, column, user='goo'):
+    """A number that a database keeps of itself, read as the user who owns it. A log beside the file is not read."""
+    words = ['sqlite3', '-init', '/dev/null', '-batch', f'file:{database}?mode=ro&immutable=1', f'SELECT {column} FROM meta']
+    try:
+        done = as_user(user, *words, timeout=SECONDS)
+    except subprocess.TimeoutExpired as fault:
+        raise Refused(f'{database}: it cannot be read within {SECONDS} s') from fault
+    said = done.stdout.decode(errors='replace').strip()
+    if not re.fullmatch('[0-9]{1,9}', said):
+        raise Refused(f'{database}: {done.stderr.decode(errors="replace").strip() or "it tells no " + column}')
+    return int(said)
+
+
 def code_of_registry():
     """The code that the file holds. It never changes, so a log beside the file does not matter."""
-    connection = sqlite3.connect(f'file:{DATABASE}?mode=ro&immutable=1', uri=True)
-    try:
-        return connection.execute('SELECT code FROM meta').fetchone()[0]
-    except (sqlite3.Error, TypeError) as fault:
-        raise Refused(f'{DATABASE}: {fault}') from fault
-    finally:
-        connection.close()
+    return meta_of(DATABASE, 'code')
 
 
 def holds_registry():
@@ -123,8 +162,7 @@ def holds_registry():
 
 def goo(*words):
     """What the program says on standard error, run as the registry's user with nothing to read."""
-    words = ['runuser', '-u', 'goo', '--', 'goo', words[0], '--db', DATABASE, *words[1:]]
-    done = subprocess.run([str(word) for word in words], stdin=subprocess.DEVNULL, capture_output=True, text=True, check=False, cwd='/')
+    done = as_user('goo', 'goo', words[0], '--db', DATABASE, *words[1:], text=True)
     return done.stderr.strip() or ('' if done.returncode == 0 else f'goo: status {done.returncode}')
 
 

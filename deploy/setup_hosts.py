@@ -5,12 +5,14 @@ import json
 import pathlib
 import re
 import shutil
+import subprocess
+import tempfile
 import time
 
 import replica_etcd
 import replica_file
-from replica_place import Place
-from setup_common import BOOK, COPIES, ETC, LED, LOG, REGISTRY, REPLICA, REPLICA_WORDS, SHARE, Refused, code_of_registry, holds_registry, is_active, run, says, tell, word_of, words_of_log, write
+from setup_common import (COPIES, ETC, FIRST, LED, LOG, REGISTRY, REPLICA, REPLICA_WORDS, SECONDS, SHARE, Refused, as_user, code_of_registry, holds_registry, is_active, run, says, tell, word_of,
+                          words_of_log, write)
 from setup_report import GOODS, PATIENCE, health, wait_for_registry
 
 NAMES = ('h1', 'h2', 'h3')
@@ -22,6 +24,8 @@ DROP_INS = {'goo-replica.service': 'goo-replica.service.conf', 'goo-backup.servi
 AGAIN = ('goo-door.socket', 'goo.service', 'goo-replica.service')
 """What is started again where the work ends before its end."""
 DAYS = 3650
+THEIR_FOLDERS = {'registry.tar': (REGISTRY, 'goo'), 'log.tar': (LOG, 'goo-replica'), 'book.tar': (FIRST, 'goo-records')}
+"""Folders of services in the archive with which a host joins: each is packed and unpacked by its user. Of the log there is the place and the archive of entries."""
 
 
 def is_address(text):
@@ -50,15 +54,22 @@ def need_etcd():
 
 # -------------------------------------------------------------------- the first host
 
+def numbers():
+    """The entry that the registry has applied last, the last one of the log, and the version after it: read as the user who owns the log."""
+    done = as_user('goo-replica', '/usr/bin/python3', '/usr/lib/goo/setup_place.py', LOG, text=True, timeout=SECONDS)
+    found = re.fullmatch(r'(\d{1,15}) (\d{1,15}) ([ -~]{0,200})\n', done.stdout, re.ASCII)
+    if done.returncode or not found:
+        raise Refused(f'{LOG}: {done.stderr.strip() or "no place in it"}')
+    return int(found[1]), int(found[2]), found[3]
+
+
 def stop_at_end():
     """Stops the registry once all of its log is applied; tells the last entry."""
     for _ in range(5):
         wait_for_registry()
         run('systemctl', 'stop', *LED)
-        last = replica_file.last_number(LOG / 'log')
-        place = Place(LOG / 'place', None)
-        place.close()
-        if place.n == last:
+        place, last, _ = numbers()
+        if place == last:
             return last
         run('systemctl', 'start', *AGAIN)
     raise Refused(f'the registry does not come to the end of its log, which is entry {last}')
@@ -114,19 +125,29 @@ def replica_words(at, addresses):
     return f'REPLICA_WORDS=--name {NAMES[at]} --code {code_of_registry()} --etcd {urls} {files}\n'
 
 
+def pack_folder(folder, user, target):
+    """A folder of a service in an archive, which its user reads. What that user has put there reaches nothing else when it is unpacked."""
+    with open(target, 'xb') as packed:
+        done = as_user(user, 'tar', '--create', '--one-file-system', '--exclude=./log', '--directory', folder, '.', capture_output=False, stdout=packed, stderr=subprocess.PIPE)
+    if done.returncode:
+        raise Refused(f'{folder}: {done.stderr.decode(errors="replace").strip()}')
+
+
 def pack(goods, at, addresses, balancer, said):
     """The archive with which a host joins: configuration, keys, the registry, its place in the log and its last copy."""
     root = goods / NAMES[at]
     copy = sorted(COPIES.glob('*/place.json'))[-1].parent
-    for path in (ETC, REGISTRY, LOG, copy, *(path for path in [BOOK / 'first'] if path.exists())):
+    for path in (ETC, copy):
         target = root / path.relative_to('/')
         target.parent.mkdir(parents=True, exist_ok=True)
         run('cp', '--archive', path, target)
-    shutil.rmtree(root / 'var/lib/goo-replica/log')
+    for name, (folder, user) in THEIR_FOLDERS.items():
+        if folder.exists():
+            pack_folder(folder, user, root / name)
     put_configuration(root, goods, at, addresses, balancer)
     write(root / 'JOIN', json.dumps({**said, 'name': NAMES[at], 'words': replica_words(at, addresses)}))
     parts = [path.relative_to(root) for path in (root / 'JOIN', root / 'etc/goo', *(root / 'etc').glob('systemd/system/*/etcd.conf'), *(root / 'etc').glob('nginx/*/*.conf'),
-                                                 root / REGISTRY.relative_to('/'), root / LOG.relative_to('/'), root / copy.relative_to('/'), root / 'var/lib/goo-records/first') if path.exists()]
+                                                 root / copy.relative_to('/'), *(root / name for name in THEIR_FOLDERS)) if path.exists()]
     run('tar', '--create', '--file', goods / f'{NAMES[at]}.tar', '--directory', root, *parts)
     shutil.rmtree(root)
 
@@ -185,9 +206,23 @@ def unpack(file):
         raise Refused(f'there is a registry on this host ({REGISTRY}); only a host without one can join')
     if said['version'] != own:
         raise Refused(f'the first host runs {said["version"]}, and here is {own}: install the same package')
-    run('tar', '--extract', '--preserve-permissions', '--same-owner', '--file', file, '--directory', '/', '--exclude', 'JOIN')
+    run('tar', '--extract', '--preserve-permissions', '--same-owner', '--file', file, '--directory', '/', '--exclude', 'JOIN', *(f'--exclude={name}' for name in THEIR_FOLDERS))
+    for name, (folder, user) in THEIR_FOLDERS.items():
+        unpack_folder(file, name, folder, user)
     write(REPLICA_WORDS, said['words'])
     tell(f'{REPLICA_WORDS}: {said["name"]}', True)
+
+
+def unpack_folder(file, name, folder, user):
+    """What of a service the first host has packed, written by the user of that service."""
+    if name not in run('tar', '--list', '--file', file).split('\n'):
+        return
+    with tempfile.TemporaryFile() as packed:
+        subprocess.run(['tar', '--extract', '--to-stdout', '--file', file, name], stdout=packed, check=True)
+        packed.seek(0)
+        done = as_user(user, 'sh', '-ec', 'mkdir -p -m 750 "$1"; tar --extract --preserve-permissions --directory "$1"', 'sh', folder, stdin=packed, text=True)
+    if done.returncode:
+        raise Refused(f'{folder}: {done.stderr.strip()}')
 
 
 def place_etcd():
@@ -203,9 +238,7 @@ def found_log(file):
     """The log in etcd goes on after the entry at which the three hosts were made. Whoever joins first begins it."""
     if is_active('goo-replica'):
         return
-    place = Place(LOG / 'place', None)
-    place.close()
-    if place.n != said_in(file)['entry']:
+    if numbers()[0] != said_in(file)['entry']:
         return
     end = time.monotonic() + PATIENCE
     while True:

@@ -11,7 +11,7 @@ import subprocess
 import tempfile
 import time
 
-from setup_common import CLOSED, COPIES, DATABASE, ETC, EXCHANGE, LOG, ON_ONE, REGISTRY, Refused, is_active, leads, says, units, word_of, words_of_log
+from setup_common import CLOSED, COPIES, DATABASE, ETC, EXCHANGE, LARGEST, LOG, ON_ONE, REGISTRY, Refused, is_active, leads, read_as, says, units, word_of, words_of_log
 
 DOOR, DESK = '/run/goo/door.sock', '/run/goo-records/web.sock'
 TOLD = pathlib.Path('/run/goo-alarm')
@@ -43,7 +43,7 @@ def ask(path, route):
         connection = Connection(path)
         connection.request('GET', route, headers={'GOO-Caller': 'ISSUER'})
         answer = connection.getresponse()
-        return answer.status, answer.read().decode()
+        return answer.status, answer.read(LARGEST).decode(errors='replace')
     except (OSError, http.client.HTTPException):
         return None
 
@@ -121,8 +121,8 @@ def status(given):
         print(f'unit      {unit} {says("systemctl", "is-active", unit) or "unknown"}')
     copy = last_copy()
     print(f'copy      {f"{copy[0]}, {copy[1]} days old" if copy else "none"}')
-    for peer in exchange_state().get('peers', []):
-        print(f'peer      {peer.get("registry")}, last heard of {peer.get("contact") or "never"}')
+    for peer in peers_of(exchange_state()):
+        print(shown(f'peer      {peer.get("registry")}, last heard of {peer.get("contact") or "never"}'))
     print(f'alarm     {last_alarm()}')
     print(f'failed    {", ".join(failed_units()) or "none"}')
     return 1 if why else 0
@@ -191,8 +191,18 @@ def member_ailments():
 
 def exchange_state():
     """What the last run of the exchange found; an empty object where it never ran."""
-    path = EXCHANGE / 'state.json'
-    return told(path.read_text(encoding='utf-8')) if path.exists() else {}
+    return told(read_as('goo-agent', EXCHANGE / 'state.json'))
+
+
+def peers_of(state):
+    """What the exchange tells of each peer."""
+    peers = state.get('peers')
+    return [peer for peer in peers if isinstance(peer, dict)] if isinstance(peers, list) else []
+
+
+def shown(text):
+    """A text without characters that a terminal would act on: some of it was written by services, and by other hosts."""
+    return ''.join(one if one.isprintable() else '?' for one in text)
 
 
 def in_words(trouble):
@@ -206,7 +216,7 @@ def exchange_ailments():
     if peers and leads() and not is_active('goo-exchange.timer'):
         yield f'{len(peers)} peers in {ETC}/exchange.conf, and goo-exchange.timer is not running', 'systemctl enable --now goo-exchange.timer'
     state = exchange_state()
-    for found, name in ((state, 'the exchange'), *((peer, f'registry {peer.get("registry")}') for peer in state.get('peers', []))):
+    for found, name in ((state, 'the exchange'), *((peer, f'registry {peer.get("registry")}') for peer in peers_of(state))):
         if found.get('trouble'):
             yield f'{name}: {in_words(found["trouble"])}', 'journalctl -u goo-exchange -n 20; OPERATING.md, "Exchange with other registries"'
     written = state.get('written')
@@ -255,6 +265,6 @@ def host_ailments():
 def doctor(given):
     found = list(ailments())
     for what, remedy in found:
-        print(f'{what}\n    {remedy}')
+        print(f'{shown(what)}\n    {shown(remedy)}')
     print('all is well' if not found else f'{len(found)} to look at')
     return 1 if found else 0

@@ -1,0 +1,200 @@
+"""How `goo-setup` begins a new version of the program, and what happens where that fails.
+
+What runs is stopped, the log notes from which entry on the new version applies, and all is started
+again. The file is opened once, by the new program as it starts. Whatever fails, what ran runs again:
+where this host is alone, with the program of before, which the package has kept. The exit status is
+then 1, so apt says that the package is not configured, and `dpkg --configure goo` tries it again.
+"""
+import argparse
+import contextlib
+import os
+import pathlib
+import re
+import subprocess
+import sys
+import time
+from collections.abc import Iterator
+
+import setup_hosts
+from setup_common import DATABASE
+from setup_common import LED
+from setup_common import LOG
+from setup_common import NEWER
+from setup_common import REPLICA
+from setup_common import SECONDS
+from setup_common import SYSTEMD
+from setup_common import Refused
+from setup_common import as_user
+from setup_common import goo
+from setup_common import is_active
+from setup_common import meta_of
+from setup_common import run
+from setup_common import says
+from setup_common import units
+from setup_common import words_of_log
+from setup_report import health
+from setup_report import wait_for_registry
+
+PROGRAM, BEFORE, REFUSED = map(pathlib.Path, ('/usr/bin/goo', '/usr/lib/goo/goo.before',
+                                              '/usr/lib/goo/goo.refused'))
+"""The program; the one of before, kept by the package's preinst; a new one that did not take over."""
+LOGGED = SYSTEMD / 'goo-door.socket.d/replica.conf'
+"""There where whoever connects comes to the log first."""
+RAN = pathlib.Path('/run/goo-upgrade')
+"""Which units ran, from before the first one is stopped until all run again."""
+OPENS_AGAIN = pathlib.Path('/run/goo/begins-again')
+"""While this is there, a stop of the registry does not open the file: the next start does."""
+OTHERS = ('goo-records.service', 'goo-records-web.service', 'goo-records-verify.service',
+          'goo-ship.service')
+PATIENCE, STARTS = 900, 3
+"""Seconds for the registry to read its file, and starts after which it is no use waiting."""
+MADE = 'd=$(mktemp -d); trap "rm -rf $d" EXIT; goo init --db "$d/r.db" --code 1 --today 2025-01-01' \
+       ' && sqlite3 -init /dev/null -batch "$d/r.db" "SELECT version FROM meta"'
+"""Prints the version of the tables that the program makes, by a registry that goes at once."""
+
+
+def upgraded(given: argparse.Namespace) -> int:
+    """After a new version was installed. Of three hosts the others may not have it yet."""
+    if not DATABASE.exists():
+        return 0
+    if words_of_log():
+        print('goo: one of three hosts, which runs on with the old version. Once all three have the '
+              'new package: goo-setup renew, on one after another')
+        return 0
+    if REFUSED.exists():        # an earlier try went back to the program of before
+        REFUSED.replace(PROGRAM)
+    has_log = LOGGED.exists() and (LOG / 'place').exists()
+    try:
+        begin_version(has_log)
+    except BaseException as fault:
+        if not go_back(has_log):
+            raise
+        raise Refused(f'{fault}\ngoo: the new version does not take over, and the program of before '
+                      'runs again. dpkg --configure goo tries the new one again; or install the '
+                      'package of before') from fault
+    for path in (BEFORE, REFUSED):
+        path.unlink(missing_ok=True)
+    begin_others()
+    return 0
+
+
+def renew(given: argparse.Namespace) -> int:
+    """On one of three hosts, the first of which has the log go over to the new version."""
+    if not words_of_log():
+        raise Refused('this host is alone: apt has begun the new version')
+    begin_version(has_log=True)
+    BEFORE.unlink(missing_ok=True)
+    begin_others()
+    print('goo: this host takes requests with the new version; the next one: goo-setup renew')
+    return 0
+
+
+# ------------------------------------------------------------------ one version and the next
+
+def begin_version(has_log: bool) -> None:
+    """From here on the log's entries are applied by this program, and what runs is started anew."""
+    waits = RAN.exists() or not health()[0]         # one that was not well before need not be now
+    with stopped():
+        check_tables()
+        if has_log:
+            move_log()
+    if waits:
+        wait_for_program()
+
+
+def begin_others() -> None:
+    """What stands around the registry goes over to the new version."""
+    run('systemctl', 'try-restart', *OTHERS)
+    for unit in NEWER:                              # one that is masked stays so
+        if says('systemctl', 'is-enabled', unit) == 'disabled':
+            run('systemctl', 'enable', '--now', unit)
+    if is_active('nginx'):
+        run('nginx', '-t', '-q')
+        run('systemctl', 'reload', 'nginx')
+
+
+def running() -> list[str]:
+    """What runs, and what ran as an earlier call began that was cut off."""
+    noted = RAN.read_text(encoding='ascii').split() if RAN.exists() else []
+    known = (*units(), 'goo-door.service')
+    active = [unit for unit in known if says('systemctl', 'is-active', unit) in
+              ('active', 'activating', 'reloading')]
+    return list(dict.fromkeys([*noted, *active]))
+
+
+@contextlib.contextmanager
+def stopped() -> Iterator[None]:
+    """The registry and its log do not run meanwhile. What ran runs again, however this ends."""
+    ran = running()
+    RAN.write_text(' '.join(ran) + '\n', encoding='ascii')
+    try:
+        OPENS_AGAIN.parent.mkdir(exist_ok=True)
+        OPENS_AGAIN.touch()
+        run('systemctl', 'daemon-reload')
+        run('systemctl', 'stop', *LED)
+        yield
+    finally:
+        OPENS_AGAIN.unlink(missing_ok=True)
+        if ran:
+            run('systemctl', 'start', *ran)
+        RAN.unlink()
+
+
+def check_tables() -> None:
+    """The program reads this file. Where its tables are of another version, only opening tells."""
+    done = as_user('goo', 'sh', '-ec', MADE, text=True, timeout=SECONDS)
+    if done.returncode or not done.stdout.strip().isdigit():
+        raise Refused(f'{PROGRAM} does not run: {done.stderr.strip() or f"status {done.returncode}"}')
+    try:
+        if int(done.stdout) == meta_of(DATABASE, 'version'):
+            return
+    except Refused:                     # the program says why as it starts
+        return
+    fault = goo('run')
+    if re.search(r'goo: version \d', fault):
+        raise Refused(f'this program does not read {DATABASE} ({fault}), and left it as it was: '
+                      'install the version that wrote it')
+
+
+def move_log() -> None:
+    """An entry of the log moves the version, unless the log is at it already."""
+    words, version = words_of_log(), run(REPLICA, 'program').strip()
+    before = setup_hosts.log_version() if words else setup_hosts.numbers()[2]
+    if before != version:
+        print(f'goo: {run(REPLICA, "version", version, *words).strip()}')
+
+
+def wait_for_program() -> None:
+    """The registry takes requests. A program that ends again and again is not waited for."""
+    end = time.monotonic() + PATIENCE
+    while time.monotonic() < end:
+        why, _ = health()
+        if not why:
+            return
+        for unit in ('goo.service', 'goo-replica.service'):
+            count = says('systemctl', 'show', '--property=NRestarts', '--value', unit)
+            if count.isdigit() and int(count) >= STARTS:
+                raise Refused(f'{unit} has ended {count} times: journalctl -u {unit} -n 20')
+        time.sleep(0.5)
+    raise Refused(f'the registry takes no requests: {why}')
+
+
+# ------------------------------------------------------------------ back to the program of before
+
+def go_back(has_log: bool) -> bool:
+    """Puts the program of before in place again, and the log back to its version."""
+    if not BEFORE.exists() or os.path.samefile(BEFORE, PROGRAM):
+        return False
+    PROGRAM.replace(REFUSED)
+    part = PROGRAM.with_name('goo.part')
+    part.unlink(missing_ok=True)
+    os.link(BEFORE, part)
+    part.replace(PROGRAM)
+    try:
+        with stopped():
+            if has_log:
+                move_log()
+        wait_for_registry()
+    except (Refused, OSError, subprocess.SubprocessError) as fault:
+        print(f'goo: the program of before: {fault}', file=sys.stderr)
+    return True

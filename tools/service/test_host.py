@@ -1,0 +1,290 @@
+"""The host around the registry: units, set-up, upgrade, exchange, certificates, and what root touches."""
+import itertools
+import json
+import signal
+import subprocess
+import sys
+import time
+from collections.abc import Iterator
+from pathlib import Path
+from types import SimpleNamespace
+
+import pytest
+
+TOP = Path(__file__).resolve().parents[2]
+DEPLOY = TOP / 'deploy'
+for place in (DEPLOY, TOP / 'tools/service'):
+    sys.path.insert(0, str(place))
+
+import exchange_visit
+from exchange_outbox import Outbox
+from host_stage import Done
+from host_stage import Stage
+from host_stage import script_of
+
+DEVICE = '500000000000000029'
+OCTOBER = {'first_day': '2024-10-01', 'last_day': '2024-10-31'}
+
+
+# ------------------------------------------------------------------ the exchange
+
+class Registry:
+    """Our registry, which takes each notice."""
+
+    def __init__(self) -> None:
+        self.taken: list[str] = []
+
+    def notice(self, number: int) -> None:
+        return None
+
+    def take(self, notice: SimpleNamespace) -> str:
+        self.taken.append(notice.text)
+        return 'accepted'
+
+
+class Sender:
+    """Registry 9, which brings notices of one device of 1 MW to registry 7."""
+
+    def __init__(self, folder: Path) -> None:
+        self.folder, self.registry, self.next = folder, Registry(), itertools.count(1)
+
+    def visit(self) -> exchange_visit.Visit:
+        outbox = Outbox(self.folder / 'outbox', 7, None)
+        ours = SimpleNamespace(folder=self.folder, registry=self.registry, outbox=outbox, code=7)
+        visit = exchange_visit.Visit(ours, SimpleNamespace(code=9))
+        visit.open()
+        return visit
+
+    def brings(self, visit: exchange_visit.Visit, *ranges: tuple[int, int], **lot: object) -> str:
+        """What becomes of a notice of these serials of registry 9."""
+        position = next(self.next)
+        of = {'capacity_w': 1_000_000, 'device': DEVICE, 'origin': 9, **OCTOBER, **lot}
+        parts = [{'first': f'{of["origin"]:02}{first:012}', 'last': f'{of["origin"]:02}{last:012}',
+                  'lot': of} for first, last in ranges]
+        text = json.dumps({'account': 1, 'addressee': 7, 'number': position, 'parts': parts,
+                           'sender': 9, 'version': 1})
+        visit.inbox.keep(position, text, 'signature')
+        visit.deliver(position, text)
+        of_it = visit.inbox.waiting.get(str(position))
+        return f'{of_it["became"]}: {of_it["why"]}' if of_it else 'accepted'
+
+
+@pytest.fixture
+def sender(tmp_path: Path) -> Sender:
+    return Sender(tmp_path)
+
+
+# October at 1 MW: 31 days of 24 hours and one hour more make 745 MWh; a carry makes it 745 certificates
+@pytest.mark.parametrize(('count', 'is_held'), [(745, False), (746, True)])
+def test_a_notice_above_capacity_times_hours_is_held(sender: Sender, count: int, is_held: bool) -> None:
+    became = sender.brings(sender.visit(), (1, count))
+    assert became.startswith('held: ') == is_held, became
+    assert len(sender.registry.taken) == (not is_held)
+    assert not is_held or (DEVICE in became and '745' in became and '746' in became)
+
+
+def test_energy_counts_what_came_before_in_other_runs(sender: Sender) -> None:
+    assert sender.brings(sender.visit(), (1, 400)) == 'accepted'
+    visit = sender.visit()
+    assert sender.brings(visit, (401, 745)) == 'accepted'
+    assert sender.brings(visit, (746, 746)).startswith('held: ')
+    assert sender.brings(sender.visit(), (1, 745)) == 'accepted', 'the same certificates once more'
+
+
+def test_energy_counts_all_parts_and_each_capacity(sender: Sender) -> None:
+    assert sender.brings(sender.visit(), (1, 400), (500, 900)).startswith('held: ')
+    visit = sender.visit()
+    assert sender.brings(visit, (1, 700)) == 'accepted'
+    assert sender.brings(visit, (701, 1400), capacity_w=999_999).startswith('held: ')
+
+
+def test_other_months_and_our_own_certificates_are_apart(sender: Sender) -> None:
+    visit = sender.visit()
+    assert sender.brings(visit, (1, 745)) == 'accepted'
+    assert sender.brings(visit, (800, 1500), first_day='2024-09-01', last_day='2024-09-30') == 'accepted'
+    assert sender.brings(visit, (1, 2000), origin=7) == 'accepted', 'our own lot, which we judged'
+
+
+def test_a_released_notice_is_imported(sender: Sender) -> None:
+    visit = sender.visit()
+    assert sender.brings(visit, (1, 2000)).startswith('held: ')
+    visit.deliver(1, visit.inbox.taken(1), True)
+    assert len(sender.registry.taken) == 1 and not visit.inbox.waiting
+
+
+@pytest.mark.parametrize('lot', [{'capacity_w': '5'}, {'device': 'x\n'}, {'first_day': 5},
+                                 {'last_day': '2024-99-99'}, {'capacity_w': -1}, {'capacity_w': 10 ** 30}])
+def test_values_of_another_form_are_left_to_the_registry(sender: Sender, lot: dict[str, object]) -> None:
+    assert sender.brings(sender.visit(), (1, 9000), **lot) == 'accepted'
+
+
+def closed_early(*words: object, **more: object) -> subprocess.CompletedProcess[str]:
+    """A program whose output nobody reads."""
+    process = subprocess.Popen([str(word) for word in words], stdout=subprocess.PIPE,
+                               stderr=subprocess.PIPE, text=True, **more)
+    process.stdout.close()
+    said = process.stderr.read()
+    return subprocess.CompletedProcess(words, process.wait(30), '', said)
+
+
+def test_the_state_of_the_exchange_may_be_read_in_part(tmp_path: Path) -> None:
+    (tmp_path / 'state.json').write_text('{}\n' * 100_000)
+    done = closed_early(DEPLOY / 'exchange', '--folder', tmp_path, '--state')
+    assert 'Traceback' not in done.stderr and 'Broken' not in done.stderr, done.stderr
+    assert done.returncode == 0
+
+
+# ------------------------------------------------------------------ the stage
+
+@pytest.fixture(scope='module')
+def whole_stage() -> Iterator[Stage]:
+    with Stage(TOP) as stage:
+        yield stage
+
+
+PREPARED = '''
+rm -rf /var/lib/goo* /etc/goo /run/goo /run/goo-upgrade /run/stage/active /run/stage/restarts* /var/backups/goo
+rm -rf /etc/systemd/system/goo* /run/stage/refuses* /run/stage/enabled* /usr/lib/goo/goo.before /usr/lib/goo/goo.refused
+mkdir -p /run/goo /run/stage/active /var/backups/goo /etc/goo /etc/nginx
+cp -a /usr/lib/goo/nginx/goo.conf /etc/nginx/
+for pair in goo:goo goo-exchange:goo-agent goo-replica:goo-replica goo-records:goo-records goo-etcd:goo-etcd; do
+    install -d -m 750 -o ${pair#*:} -g ${pair#*:} /var/lib/${pair%:*}
+done
+openssl rand -hex 32 > /etc/goo/replica.key
+chown goo-replica /etc/goo/replica.key
+chmod 400 /etc/goo/replica.key
+: > /run/stage/openings
+: > /run/stage/calls
+'''
+RUNS = ('goo-door.socket', 'goo.service', 'goo-replica.service', 'goo-registry.socket', 'goo-backup.timer')
+
+
+@pytest.fixture
+def stage(whole_stage: Stage) -> Stage:
+    """A host with the users and the empty folders of the package."""
+    whole_stage.shell(PREPARED)
+    whole_stage.program('1.0.0')
+    return whole_stage
+
+
+# ------------------------------------------------------------------ a new version
+
+@pytest.fixture
+def registry(stage: Stage) -> Iterator[Stage]:
+    """A registry of version 1.0.0 that runs behind its log."""
+    stage.shell('setpriv --reuid=goo --regid=goo --clear-groups goo init --db /var/lib/goo/registry.db\n'
+                '/usr/lib/goo/replica-log found\n'
+                'mkdir -p /etc/systemd/system/goo-door.socket.d\n'
+                'touch /etc/systemd/system/goo-door.socket.d/replica.conf\n'
+                f'systemctl start {" ".join(RUNS)}\n: > /run/stage/openings')
+    door = stage.begin('/usr/bin/python3', '/usr/lib/stage/door.py')
+    for _ in range(100):
+        if is_well(stage):
+            break
+        time.sleep(0.05)
+    assert is_well(stage)
+    yield stage
+    stage.shell('kill "$(cat /run/stage/door.pid)"')
+    door.wait(10)
+
+
+def is_well(stage: Stage) -> bool:
+    """Whether the registry takes requests."""
+    words = ('curl', '-s', '--max-time', '5', '-o', '/dev/null', '-w', '%{http_code}', '--unix-socket',
+             '/run/goo/door.sock', 'http://localhost/healthz')
+    return stage.run(*words).out == '200'
+
+
+def unpack(stage: Stage, tables: int = 2, more: str = '') -> None:
+    """What dpkg does with a new package up to its postinst."""
+    for name in ('preinst', 'postinst'):
+        stage.put(f'/run/stage/{name}', script_of(TOP / 'tools/package', name), 0o755)
+    done = stage.run('/run/stage/preinst', 'upgrade', '1.0.0')
+    assert done.status == 0, done
+    stage.program('1.1.0', tables, more)
+
+
+def configure(stage: Stage) -> Done:
+    return stage.run('/run/stage/postinst', 'configure', '1.0.0')
+
+
+def version(stage: Stage) -> str:
+    return stage.run('goo', '--version').out.strip()
+
+
+def test_a_new_version_opens_the_file_once(registry: Stage) -> None:
+    unpack(registry)
+    done = configure(registry)
+    assert done.status == 0, done
+    assert registry.lines('/run/stage/openings') == ['serve']
+    assert set(RUNS) <= registry.active() and is_well(registry)
+    assert version(registry) == 'goo 1.1.0' and 'the version is goo 1.1.0' in done.out
+    assert not registry.run('ls', '/usr/lib/goo/goo.before', '/run/goo-upgrade').out
+    assert {'goo-units.timer', 'goo-doctor.timer'} <= registry.active(), 'what is new is started'
+
+
+def test_a_stop_puts_the_log_into_the_database(registry: Stage) -> None:
+    registry.shell('systemctl stop goo.service')
+    assert registry.lines('/run/stage/openings') == ['run']
+
+
+@pytest.mark.parametrize(('result', 'code'), [('signal', 'killed'), ('exit-code', 'exited'),
+                                              ('success', 'exited'), ('oom-kill', 'killed')])
+def test_a_registry_that_is_started_again_is_opened_once(registry: Stage, result: str, code: str) -> None:
+    registry.shell(f'SERVICE_RESULT={result} EXIT_CODE={code} '
+                   '/usr/lib/goo/close-database /var/lib/goo/registry.db')
+    assert registry.lines('/run/stage/openings') == []
+
+
+@pytest.mark.parametrize('fault', ['no key of the log', 'tables of another version',
+                                   'a program that does not run', 'a program that crashes'])
+def test_a_version_that_does_not_take_over_leaves_the_one_of_before(registry: Stage, fault: str) -> None:
+    if fault == 'no key of the log':
+        registry.shell('mv /etc/goo/replica.key /etc/goo/kept')
+    unpack(registry, 3 if fault == 'tables of another version' else 2,
+           'exit 3;' if fault == 'a program that does not run' else
+           ': CRASHES;' if fault == 'a program that crashes' else '')
+    if fault == 'a program that crashes':
+        registry.put('/run/stage/restarts-goo.service', '5\n')
+    done = configure(registry)
+    assert done.status != 0, done
+    assert set(RUNS) <= registry.active(), done
+    assert version(registry) == 'goo 1.0.0' and is_well(registry), done
+    assert 'dpkg --configure goo' in done.err, done
+    registry.shell('[ ! -e /etc/goo/kept ] || mv /etc/goo/kept /etc/goo/replica.key')
+    registry.shell('rm -f /run/stage/restarts-goo.service')
+    if registry.run('ls', '/usr/lib/goo/goo.refused').out:
+        registry.shell('sed -i "s/exit 3;//; s/: CRASHES;//; s/VALUES (3,/VALUES (2,/; s/= 3 /= 2 /" '
+                       '/usr/lib/goo/goo.refused')
+    done = configure(registry)
+    assert done.status == 0 and version(registry) == 'goo 1.1.0' and is_well(registry), done
+
+
+@pytest.mark.parametrize('number', [signal.SIGKILL, signal.SIGTERM, signal.SIGHUP])
+def test_a_set_up_that_is_ended_half_way_leaves_what_ran(registry: Stage, number: int) -> None:
+    unpack(registry, more='[ -e /run/stage/goes-on ] || { touch /tmp/waits; sleep 30; };')
+    registry.shell('rm -f /tmp/waits')
+    begun = registry.begin('/usr/sbin/goo-setup', 'upgraded')
+    for _ in range(200):
+        if registry.run('ls', '/tmp/waits').out:
+            break
+        time.sleep(0.05)
+    assert 'goo.service' not in registry.active(), 'the registry is stopped by now'
+    pid = registry.shell('pgrep -f "goo-setup upgraded"').out.split()[0]
+    registry.shell(f'kill -{int(number)} {pid}; touch /run/stage/goes-on')
+    begun.wait(60)
+    assert begun.returncode != 0
+    if number != signal.SIGKILL:
+        assert set(RUNS) <= registry.active() and is_well(registry), begun.stderr.read()
+    done = configure(registry)
+    registry.shell('rm /run/stage/goes-on')
+    assert done.status == 0 and set(RUNS) <= registry.active() and is_well(registry), done
+    assert version(registry) == 'goo 1.1.0'
+
+
+def test_a_host_of_three_waits_for_its_renewal(registry: Stage) -> None:
+    registry.put('/etc/goo/replica.env', 'REPLICA_WORDS=--name h1 --code 7 --etcd https://192.0.2.1:2379\n')
+    unpack(registry)
+    done = configure(registry)
+    assert done.status == 0 and 'goo-setup renew' in done.out, done
+    assert registry.lines('/run/stage/openings') == []
