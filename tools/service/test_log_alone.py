@@ -75,9 +75,10 @@ def test_what_is_out_of_bounds_is_no_entry(log: Alone) -> None:
 def test_a_holder_s_bytes_of_a_day_are_counted_over_restarts(log: Alone) -> None:
     """As lines of the log: a body that is no text has four bytes for three there."""
     body = b'\xff' * 1_000_000
-    sent = 0
-    while (answer := log.table(body, 'SUN')).status == 200:
-        sent += 1
+    for sent in range(30):
+        answer = log.table(body, 'SUN')
+        if answer.status != 200:
+            break
         if sent in (1, 9, 20):
             log.restart()
     lines = (log.state / 'archive').glob('*.jsonl')
