@@ -266,18 +266,22 @@ def test_a_start_on_a_full_disk_with_torn_ends(folder: Path) -> None:
 # ------------------------------------------------------------------ over etcd
 
 def test_many_long_requests_hold_up_nobody(folder: Path) -> None:
-    """Sixteen bodies that are no text have 1.2 MB, and 1.6 MB as lines: etcd takes 1.5 MiB."""
-    with Alone(folder, etcd_words=[]) as log, concurrent.futures.ThreadPoolExecutor(20) as pool:
-        first = [0.5]
-        log.registry.pause = lambda: first.pop() if first else 0.0
-        began = time.monotonic()
-        busy = pool.submit(log.send, REQUEST % 1)
-        time.sleep(0.1)
-        many = [pool.submit(log.table, b'\xff' * 75_000, 'SUN') for _ in range(16)]
-        other = pool.submit(log.send, REQUEST % 2, 'VOLT')
-        answers = [one.result() for one in (busy, *many, other)]
-        assert [answer.status for answer in answers] == [200] * 18
-        assert time.monotonic() - began < 5
+    """Sixteen bodies that are no text have 1.2 MB, and 1.6 MB as lines: etcd takes 1.5 MiB.
+
+    They gather for one append while the registry is busy with ten others.
+    """
+    with Alone(folder, etcd_words=[]) as log, concurrent.futures.ThreadPoolExecutor(30) as pool:
+        for turn in range(3):
+            first = [0.4]
+            log.registry.pause = lambda: first.pop() if first else 0.0
+            began = time.monotonic()
+            busy = [pool.submit(log.send, REQUEST % (20 * turn + n)) for n in range(10)]
+            time.sleep(0.2)
+            many = [pool.submit(log.table, b'\xff' * 74_000, 'SUN') for _ in range(16)]
+            other = pool.submit(log.send, REQUEST % (20 * turn + 11), 'VOLT')
+            answers = [one.result() for one in (*busy, *many, other)]
+            assert [answer.status for answer in answers] == [200] * 27
+            assert time.monotonic() - began < 5
 
 
 def test_a_request_that_etcd_denies_is_told_at_once_and_alone(folder: Path) -> None:
