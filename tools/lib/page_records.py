@@ -54,6 +54,7 @@ class WithRecords(Place):
         common = ['--name', 'a', '--state', state, '--key', key, '--version', 'trial']
         self.stop_registry()
         subprocess.run([HOME / 'deploy/replica-log', 'found', *common, '--goo', self.goo, '--db', self.db], check=True, capture_output=True)
+        begun_before(next((state / 'log').glob('*.jsonl')), key.read_bytes())
         self.start_registry()
         self.begin('replica', HOME / 'deploy/replica', *common, '--store', state / 'log', '--listen', f'127.0.0.1:{port}', '--registry', f'127.0.0.1:{self.goo_port}')
         wait_for(port)
@@ -101,6 +102,16 @@ class WithRecords(Place):
             process.terminate()
             process.wait(SECONDS)
         super().__exit__(kind, *rest)
+
+
+def begun_before(file, key):
+    """Puts an entry into a log that was just begun, as logs have it from before roles were looked at in front of them: a write that the role does not allow."""
+    line = file.read_bytes().splitlines()[-1]
+    body = {'command': 'withdraw', 'key': 'tried', 'first': '07000000000733', 'last': '07000000000733', 'reason': 'meter read twice'}
+    before = entries.read_entry(line)
+    entry = before._replace(n=before.n + 1, prev=entries.hash_of(line), user='paula', role='reads', method='POST', route='/v1/requests', body=json.dumps(body).encode())
+    with open(file, 'ab') as log:
+        log.write(entries.written(entry, key) + b'\n')
 
 
 def wait_until(holds, what):
@@ -530,6 +541,18 @@ class Seen:
         rows = cells_once(b, lambda rows: len(rows) == min(own, 100))
         check('filtered by user, it has the acts of this user', len(rows) == min(own, 100) and all('by office' in row[8] for row in rows), (own, len(rows)))
 
+    def beyond_role(self):
+        """What a role does not allow is told as that, with who tried it, in the history and by itself."""
+        b, check = self.b, self.check
+        b.go('history//outcome=refused', 'table')
+        rows = [row[1:2] + row[6:7] + row[8:] for row in cells(b) if 'role' in row[6]]
+        check('what a role does not allow is refused for the role, and who tried it is told', rows == [['withdrawal', 'refused: role “read only”', 'meter read twice by paula']], cells(b)[:3])
+        b.picture('history-role')
+        b.press('tr:has(.refused) td a', '20')
+        got = b.text('main dl', 'read only').split('\n')
+        facts = dict(zip(got[::2], got[1::2]))
+        check('and so is the act by itself', (facts['Outcome'], facts['Role'], facts['User'], facts['Caller'], facts['Key']) == ('refused: role “read only”', 'read only', 'paula', 'ISSUER', 'tried'), facts)
+
     def auditor(self):
         """Whoever may only read is offered nothing that the front door would refuse."""
         b, check = self.b, self.check
@@ -759,8 +782,8 @@ class OfManyLots(WithRecords):
 PUBLIC = 'nemo'
 """Whose browser stands for anybody's: he signs in nowhere here."""
 STEPS = [('anna', ['accounts', 'foot', 'holdings', 'history', 'names', 'lists', 'quantity', 'lost_in_the_middle', 'cancel_many', 'export_many', 'by_keyboard', 'german']), ('bela', ['of_other']),
-         ('office', ['devices', 'upload', 'entered', 'german_of_issuer']), ('paula', ['auditor']), ('meters', ['meters']), (PUBLIC, ['public', 'public_in_german'])]
-IN_QUICK = [('anna', ['accounts', 'foot', 'lost_in_the_middle', 'cancel_many', 'by_keyboard']), ('office', ['upload', 'german_of_issuer']), ('paula', ['auditor']), ('meters', ['meters']), (PUBLIC, ['public'])]
+         ('office', ['beyond_role', 'devices', 'upload', 'entered', 'german_of_issuer']), ('paula', ['auditor']), ('meters', ['meters']), (PUBLIC, ['public', 'public_in_german'])]
+IN_QUICK = [('anna', ['accounts', 'foot', 'lost_in_the_middle', 'cancel_many', 'by_keyboard']), ('office', ['beyond_role', 'upload', 'german_of_issuer']), ('paula', ['auditor']), ('meters', ['meters']), (PUBLIC, ['public'])]
 ROLES = ('paula ISSUER reads', 'meters ISSUER declares')
 
 
