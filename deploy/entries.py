@@ -103,21 +103,25 @@ def body_of(name, said):
     return base64.b64decode(said, validate=True) if name == 'body64' else said.encode()
 
 
-AROUND = len('{"entry":,"mac":""}') + 64                # bytes of a line around the text of its entry
+AROUND = len('{"entry":},"mac":""}') + 64               # bytes of a line beside head and body of its entry
 FIELDS = list(Entry._fields)
-FORM = '{"n":%d,' + ','.join([f'"{name}":%s' for name in FIELDS[1:-1]]) + ',%s}'
+FORM = '{"n":%d,' + ','.join([f'"{name}":%s' for name in FIELDS[1:-1]]) + ','
 
 
-def written(entry, key, member=''):
-    """The line of an entry, without its line end. `member` is what `body_member` makes of the body, where that is known."""
-    text = (FORM % (entry.n, *map(quoted, entry[1:-1]), member or body_member(entry.body))).encode()
+def written(entry, key, member=b''):
+    """The line of an entry, without its line end. `member` is what `body_member` makes of the body, as bytes, where that is known."""
+    text = head_of(entry) + (member or body_member(entry.body).encode()) + b'}'
     return b'{"entry":' + text + b',"mac":"' + mac(text, key).encode() + b'"}'
+
+
+def head_of(entry):
+    """The members before the body."""
+    return (FORM % (entry.n, *map(quoted, entry[1:-1]))).encode()
 
 
 def length(entry, member):
     """The bytes of an entry's line, without its line end."""
-    head = FORM % (entry.n, *map(quoted, entry[1:-1]), '')
-    return len(head.encode()) + len(member.encode()) + AROUND
+    return len(head_of(entry)) + len(member) + AROUND
 
 
 @functools.lru_cache(4)

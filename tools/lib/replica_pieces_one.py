@@ -3,6 +3,7 @@ import archives
 import replica_place
 import collections
 import contextlib
+import io
 import itertools
 import json
 import os
@@ -67,7 +68,7 @@ def entry_form(cluster, work):
     lost = []
     for at in range(0, len(whole), 11):
         last.write_bytes(whole[:at])
-        with contextlib.redirect_stderr(None):
+        with contextlib.redirect_stderr(io.StringIO()):
             told, mended = [one.entry.n for one in entries.read_archive(folder)], entries.Archive(folder).last.entry.n
         lost += [at] if told[-1] != mended or mended != 5 + whole[:at].count(b"\n") or last.read_bytes() != whole[:whole[:at].rfind(b"\n") + 1] else []
     check("cut off at each place, it ends with its last whole line", not lost, lost)

@@ -1,5 +1,8 @@
 """The log of requests and its archive: what a start cuts, what it refuses, and what it reads."""
+import base64
 import dataclasses
+import hmac
+import json
 import os
 import random
 import subprocess
@@ -276,3 +279,24 @@ def test_a_second_process_that_applies_is_locked_out_before_it_cuts(tmp_path: Pa
     assert done.returncode == 1 and 'another program' in done.stderr, done
     assert file.read_bytes() == torn
     held.close()
+
+
+BODIES = [b'', b'{"a":"b"}', 'ä€😀'.encode() * 3000, b'\xff' * 5000, b'"' * 9999]
+
+
+@pytest.mark.parametrize('body', BODIES, ids=['empty', 'JSON', 'wide', 'no text', 'quotes'])
+def test_the_length_of_a_line_is_known_before_it_is_written(body: bytes) -> None:
+    """And the line is JSON of the members that docs/REPLICAS.md names, with the body as it came."""
+    entry = entry_of(10 ** 9, 64 * 'a', body)
+    member = entries.body_member(body).encode()
+    line = entries.written(entry, KEY, member)
+    assert line == entries.written(entry, KEY)
+    assert entries.length(entry, member) == len(line)
+    said = json.loads(line)
+    assert list(said) == ['entry', 'mac'] and list(said['entry'])[:-1] == [
+        'n', 'prev', 'time', 'host', 'user', 'address', 'role', 'caller', 'method', 'route',
+        'version', 'id']
+    text = said['entry'].get('body')
+    read = text.encode() if text is not None else base64.b64decode(said['entry']['body64'])
+    assert read == body
+    assert said['mac'] == hmac.new(KEY, line[9:line.index(b'},"mac"') + 1], 'sha256').hexdigest()
