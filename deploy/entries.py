@@ -282,7 +282,7 @@ def read_archive(folder, after=0, key=None, follow=False):
 
 def ended_whole(path, at):
     """Raises Broken where a whole line stands at the end of an archive, and its line end is another byte."""
-    if path is None or path.suffix == '.gz':
+    if path is None or path.suffix == '.gz' or not path.exists():       # a file that was compressed meanwhile was whole
         return
     with open(path, 'rb') as file:
         file.seek(at)
