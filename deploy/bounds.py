@@ -15,6 +15,7 @@ BODY = 1 << 20                  # bytes of any body: the registry's own limit
 ROWS = 21_000                   # rows of a table: BODY has no more, with keys of four letters
 REQUEST = 64 << 10              # bytes of a request; an import by the issuing body may have BODY
 DAY = 32 << 20                  # bytes of a holder's entries in a day (UTC)
+READER = json.JSONDecoder(parse_int=str, parse_float=str)
 DATE = re.compile('[0-9]{4}-[0-9]{2}-[0-9]{2}')
 
 
@@ -67,7 +68,7 @@ def members(body: bytes) -> dict[str, object]:
     name the last one counts. Numbers stay texts, since a long number takes long to make.
     """
     try:
-        read = json.loads(body.decode(), parse_int=str, parse_float=str)
+        read = READER.decode(body.decode())
     except (ValueError, RecursionError):
         return {}
     return read if isinstance(read, dict) else {}
