@@ -333,11 +333,11 @@ class Archive:
     def __init__(self, folder, key=None):
         self.folder = pathlib.Path(folder)
         self.folder.mkdir(mode=0o750, parents=True, exist_ok=True)
-        self.file, self.month, self.last = None, '', None
-        for path in reversed(months(self.folder)):
+        files = months(self.folder)
+        self.file, self.month, self.last = None, files[-1].name[:7] if files else '', None      # the month before may be compressed, and takes no more
+        for path in reversed(files):
             self.last = mended(path, functools.partial(read_record, key=key), follows)
             if self.last:
-                self.month = path.name[:7]
                 break
 
     def add(self, line, entry, outcome, h=''):

@@ -137,8 +137,15 @@ def test_a_file_with_the_beginning_of_its_first_line_alone_is_emptied(tmp_path: 
     """A crash in the first line of a month leaves that; the month before has the end."""
     file = archive_of(tmp_path, 9)
     (tmp_path / '2026-04.jsonl').write_bytes(file.read_bytes()[:100])
-    assert entries.Archive(tmp_path, KEY).last.entry.n == 9
+    entries.compress(tmp_path)
+    archive = entries.Archive(tmp_path, KEY)
+    assert archive.last.entry.n == 9
     assert (tmp_path / '2026-04.jsonl').read_bytes() == b''
+    entry = entry_of(10, archive.last.hash, BODY % 10)      # of March, by a clock that was set back
+    archive.add(entries.written(entry, KEY), entry,
+                entries.decided(entry.route, 200, ACCEPTED % 10, archive.last.outcome.chain))
+    os.close(archive.file)
+    assert [one.entry.n for one in entries.read_archive(tmp_path, 0, KEY)] == list(range(1, 11))
 
 
 def test_the_archive_is_read_up_to_the_damaged_entry(tmp_path: Path) -> None:
