@@ -3,10 +3,10 @@
 A copy is a folder as copies.py describes it, with place.json: the entry that the database has applied last, its hash, and the chain of outcomes up
 to it. So each copy also holds a hash of its day, over all that came before.
 """
-import csv, io, json, os, pathlib, re, shutil, subprocess, sys, tempfile, time
+import csv, io, json, os, pathlib, re, shutil, subprocess, sys, tempfile, time, zlib
 
 import copies, entries, replica_roles
-from owner import as_owner
+from owner import NotDone, as_owner
 from replica_hold import held
 from replica_rows import differences
 
@@ -115,18 +115,19 @@ def declare(row):
 def records_of(archive, after, key):
     """The records after entry `after`, in order, each checked. The archive is opened by whoever owns the replica's folder."""
     last = None
-    for line in as_owner(archive.parent, lambda: (line for _, line, _ in entries.whole_lines(archive, after, None, 0))):
-        try:
+    try:
+        for line in as_owner(archive.parent, lambda: (line for _, line, _ in entries.whole_lines(archive, after, None, 0))):
             n = entries.number_in(line)
             if n < after:
                 continue
             record = entries.read_record(line, key)
             entries.follows(last, record)
-        except entries.Broken as fault:
-            raise entries.Broken(f"{archive}: {f'the line of entry {last.entry.n + 1}' if last else 'the first line'} does not hold: {fault}") from fault
-        last = record
-        if n > after:
-            yield record
+            last = record
+            if n > after:
+                yield record
+    except (entries.Broken, NotDone, OSError, EOFError, zlib.error) as fault:
+        where = f"the line of entry {last.entry.n + 1}" if last else f"the line of entry {after or 1}, or one before it,"
+        raise entries.Broken(f"{archive}: {where} does not hold: {fault}") from fault
 
 
 def bring_up(goo, db, archive, place, key, last=None):
@@ -260,9 +261,9 @@ def verify(goo, archive, key, copy, folder, begin=1):
     for record in records_of(archive, begin - 1, key):
         if first is None:
             first = record.entry
+            if first.n != begin:
+                raise entries.Broken(f"{archive}: it begins at entry {first.n}, and not at {begin}. Where this is as it should be: --from {first.n}")
             yield from met(places, begin - 1, first.prev, None)
-        if first.n != begin:
-            raise entries.Broken(f"{archive}: it begins at entry {first.n}, and not at {begin}. Where this is as it should be: --from {first.n}")
         last = record
         if record.outcome.status not in STATUSES:
             raise entries.Broken(f"entry {record.entry.n}: {record.outcome.status} is no outcome")
