@@ -421,7 +421,7 @@ def test_what_was_done_behind_the_log_fails_the_copy(log_house: House) -> None:
     first = newest(house)
     behind_the_log(
         house,
-        {'command': 'transfer', 'key': 't', 'from': country.sun, 'to': country.volt,
+        {'command': 'transfer', 'key': 't', 'giver': country.sun, 'taker': country.volt,
          'first': f'{country.first:014}', 'last': f'{country.first + 9:014}'},
         {'command': 'cancel', 'key': 'c', 'account': country.sun, 'beneficiary': 'Nobody',
          'first': f'{country.first + 20:014}', 'last': f'{country.first + 29:014}',
