@@ -45,7 +45,8 @@ class Replay:
     """
 
     def __init__(self, goo, db):
-        self.goo, self.db = goo, db
+        """`goo` is the program, or the words that run it."""
+        self.goo, self.db = [goo] if isinstance(goo, str) else goo, db
         self.lines, self.asked, self.size = [], [], 0       # asked: the record, and what each line has to come to
 
     def take(self, record):
@@ -79,7 +80,7 @@ class Replay:
         """Has the program carry out what was gathered."""
         if not self.lines:
             return
-        done = subprocess.run([self.goo, "run", "--db", self.db], input=b"".join(self.lines), capture_output=True)
+        done = subprocess.run([*self.goo, "run", "--db", self.db], input=b"".join(self.lines), capture_output=True)
         if done.returncode not in (0, 1) or done.stderr:
             raise entries.Broken(f"goo run: {done.stderr.decode(errors='replace').strip()} (status {done.returncode})")
         answers = done.stdout.splitlines()
@@ -112,11 +113,11 @@ def declare(row):
     return entries.compact({"command": "declare", "key": key, "device": device, "first_day": first, "last_day": last, "gross_wh": int(gross), "aux_wh": int(aux)})
 
 
-def records_of(archive, after, key):
+def records_of(archive, after, key, state=None):
     """The records after entry `after`, in order, each checked. The archive is opened by whoever owns the replica's folder."""
     last = None
     try:
-        for line in as_owner(archive.parent, lambda: (line for _, line, _ in entries.whole_lines(archive, after, None, 0))):
+        for line in as_owner(state or archive.parent, lambda: (line for _, line, _ in entries.whole_lines(archive, after, None, 0))):
             n = entries.number_in(line)
             if n < after:
                 continue
@@ -288,5 +289,5 @@ def met(places, n, h, chain):
     for name in [name for name, place in places.items() if place["n"] == n]:
         place = places.pop(name)
         if place["hash"] != h or chain is not None and place["chain"] != chain:
-            raise entries.Broken(f"entry {n}: {name} has another hash of that day")
+            raise entries.Broken(f"entry {n}: {name} has another hash of that day: it was changed, or it is of another log")
         yield f"the hash of {name} is that of entry {n}"

@@ -5,7 +5,6 @@ import random
 import re
 import shutil
 import sqlite3
-import stat
 import subprocess
 import sys
 import threading
@@ -20,7 +19,9 @@ import loopback
 import owner
 import pytest
 import replica_copies
+import replica_place
 import replica_rows
+import replica_undo
 from house import House
 
 GOO = str(Path(loopback.program()).resolve())
@@ -383,8 +384,8 @@ def test_the_owner_ends_where_nobody_reads_and_tells_its_faults(tmp_path: Path) 
         raise OSError('no such thing')
     with pytest.raises(owner.NotDone, match='no such thing'):
         list(owner.as_owner(home, fault))
-    assert list(owner.as_owner(home, lambda: iter([b'', b'a' * 3_000_000]))) == [b'',
-                                                                                  b'a' * 3_000_000]
+    long = b'a' * 3_000_000
+    assert list(owner.as_owner(home, lambda: iter([b'', long]))) == [b'', long]
 
 
 # ------------------------------------------------------------------ the nightly copy
@@ -517,3 +518,156 @@ def test_a_hold_ends_by_itself(tmp_path: Path) -> None:
         done = house.log_words('copy')
         assert done.returncode == 1 and 'not copied in 3 tries' in done.stderr, done
         house.enter('ISSUER', 'open_holder', 'after', holder='AFTER', name='A')
+
+
+# ------------------------------------------------------------------ an entry is undone
+
+def put_before(house: House, copy: Path, n: int) -> None:
+    """The registry's file is the copy with the entries before n, as restore --before makes it."""
+    part = house.folder / 'part'
+    part.mkdir()
+    copies.copy_database(copy / 'registry.db', part)
+    replica_copies.bring_up(GOO, part / 'registry.db', house.state / 'archive',
+                            replica_copies.read_place(copy), house.key.read_bytes(), n - 1)
+    for file in house.db.parent.glob('registry.db*'):
+        file.unlink()
+    (part / 'registry.db').rename(house.db)
+    part.rmdir()
+
+
+def test_a_wrong_date_is_undone_and_what_came_after_is_sent_again(log_house: House) -> None:
+    """The wrong date expires what is held. One that came after was refused for it, one was not."""
+    house = log_house
+    country = house.make_country()
+    assert house.log_words('copy').returncode == 0
+    copy = newest(house)
+    held = {'first': f'{country.first:014}', 'last': f'{country.first + 9:014}'}
+    transfer = {'command': 'transfer', 'giver': country.sun, 'taker': country.volt, **held}
+    house.enter('SUN', **transfer | {'key': 'before'})
+    n = house.entry() + 1
+    wrong = json.dumps({'command': 'advance', 'key': 'wrong', 'day': '2026-10-01'})
+    assert house.ask_log('ISSUER', 'POST', '/v1/requests', wrong).json['reply']['expired'] == 100
+    later = [
+        ('ISSUER', {'command': 'open_holder', 'key': 'later', 'holder': 'LATER', 'name': 'L'}),
+        ('VOLT', {'command': 'transfer', 'key': 'back', 'giver': country.volt,
+                  'taker': country.sun, **held}),
+        ('ISSUER', {'command': 'advance', 'key': 'day', 'day': '2025-03-02'})]
+    outcomes = [house.ask_log(caller, 'POST', '/v1/requests', json.dumps(request),
+                              user='anna', address='192.0.2.9').status
+                for caller, request in later]
+    assert outcomes == [200, 409, 409]
+    before = (house.state / 'archive').glob('*')
+    whole = {path.name: path.read_bytes() for path in before}
+    house.stop('log')
+    house.stop('registry')
+    put_before(house, copy, n)
+    for _ in range(2):                          # cut off after it, the same is done once more
+        done = house.log_words('undo', n)
+        assert done.returncode == 0, done
+    [folder] = house.state.glob('undone-*')
+    assert {path.name: path.read_bytes() for path in (folder / 'archive').iterdir()} == whole
+    house.start('registry')
+    house.start('log')
+    done = house.log_words('again', n)
+    assert done.returncode == 0, done
+    told = done.stdout.splitlines()
+    assert len(told) == 3 and told[2].startswith('3 entries after entry')
+    assert re.match(rf'entry {n + 2}, now entry {n + 2}: anna as VOLT, transfer back: was 409 '
+                    r'.*"NotHeld".*, is 200 \{"outcome":"accepted"', told[0]), told[0]
+    assert 'advance day: was 409' in told[1] and 'is 200' in told[1]
+    audit = house.ask_log('ISSUER', 'GET', f'/v1/accounts/{country.sun}/statement').text
+    assert 'date 2025-03-02' in audit and 'expired 0' in audit and 'held 100' in audit
+    again = house.ask_log('ISSUER', 'POST', '/v1/requests', wrong)
+    assert again.status == 500 and house.entry() == n + 3
+    verified = house.log_words('verify', '--from', copy)
+    assert verified.returncode == 0 and f'entries 1 to {n + 3}: ' in verified.stdout, verified
+    assert house.log_words('copy').returncode == 0
+    assert house.log_words('undo', n).returncode == 1       # a replica runs
+    entry = next(entries.read_archive(house.state / 'archive', n))
+    assert (entry.entry.user, entry.entry.address) == ('anna', '192.0.2.9')
+
+
+@pytest.mark.parametrize('last', [1, 2, 5])
+def test_an_archive_of_months_is_cut_at_any_entry(tmp_path: Path, last: int) -> None:
+    """Of three months, the first compressed; what was taken out stays as it was."""
+    state = tmp_path / 'state'
+    (state / 'log').mkdir(parents=True)
+    archive, prev, chain = entries.Archive(state / 'archive'), 'f' * 64, entries.NO_CHAIN
+    for number, month in enumerate(('01', '01', '02', '02', '03'), 1):
+        entry = entries.Entry(
+            n=number, prev=prev, time=f'2025-{month}-01T09:00:00.000000Z', host='h1', user='',
+            address='', role='full', caller='ISSUER', method='POST', route='/v1/requests',
+            version='trial', id='0' * 16, body=opened_holder(number))
+        archive.add(entries.written(entry, KEY), entry,
+                    entries.decided('/v1/requests', 200, ACCEPTED, chain))
+        assert archive.last
+        prev, chain = archive.last.hash, archive.last.outcome.chain
+    entries.compress(state / 'archive')
+    records = list(entries.read_archive(state / 'archive'))
+    whole = {path.name: path.read_bytes() for path in (state / 'archive').iterdir()}
+    for _ in range(2):
+        folder = Path(replica_undo.take_out(state, last, lambda point: line_after(point)))
+    assert list(entries.read_archive(state / 'archive')) == records[:last - 1]
+    assert {path.name: path.read_bytes() for path in (folder / 'archive').iterdir()} == whole
+    place = replica_place.Place(state / 'place', None)
+    assert (place.n, place.h) == (last - 1, records[last - 1].entry.prev)
+    place.close()
+    with pytest.raises(entries.Broken, match=f'entry {last} is being undone'):
+        replica_undo.take_out(state, last + 1, lambda point: line_after(point))
+    (folder / 'sent').touch()
+    with pytest.raises(entries.Broken, match=f'no entry {last} '):
+        replica_undo.take_out(state, last, lambda point: line_after(point))
+
+
+def line_after(point: replica_undo.Point) -> bytes:
+    """The entry with which a new log begins."""
+    entry = entries.Entry(
+        n=point.n + 1, prev=point.hash, time='2025-03-02T09:00:00.000000Z', host='h1', user='',
+        address='', role='full', caller='ISSUER', method='VERSION', route='', version='trial',
+        id='0' * 16, body=b'trial')
+    return entries.written(entry, KEY)
+
+
+# ------------------------------------------------------------------ where the book begins
+
+def test_a_log_begun_over_a_registry_places_the_beginning_of_the_book(
+        db: Path, tmp_path: Path) -> None:
+    """The first copy of a new log, with the records' folder of another user; then a log goes on."""
+    state, book, conf = (tmp_path / name for name in ('state', 'book', 'conf'))
+    for folder in (state, book, conf, tmp_path / 'copies'):
+        folder.mkdir()
+    for folder in (tmp_path, *tmp_path.parents[:2]):
+        folder.chmod(0o755)
+    if os.geteuid() == 0:
+        os.chown(book, NOBODY, NOBODY)
+    (conf / 'records.conf').write_text('GOO_RECORDS_BEGIN=--begun 7 2025-03-01 1\n')
+    (tmp_path / 'key').write_bytes(KEY)
+    words = ['--state', state, '--key', tmp_path / 'key', '--copies', tmp_path / 'copies', '--goo',
+             GOO, '--db', db]
+
+    def first_copy() -> None:
+        done = subprocess.run(
+            [Path(replica_copies.__file__).with_name('replica-log'), 'first-copy', *words],
+            capture_output=True, text=True, check=False,
+            env={**os.environ, 'GOO_BOOK': str(book), 'GOO_CONFIGURATION': str(conf),
+                 'GOO_EXCHANGE': '/nowhere'})
+        assert done.returncode == 0 and Path(done.stdout.strip()).is_dir(), done
+        time.sleep(1)
+    replica_log('found', *words, check=True)
+    first_copy()
+    assert '--begun 7 2025-03-01 1' in (conf / 'records.conf').read_text()
+    run_on(db, opened_holder(1))
+    first_copy()
+    assert (conf / 'records.conf').read_text().endswith(
+        f'\nGOO_RECORDS_BEGIN=--copy {book}/first --after 0\n')
+    assert rows(book / 'first/registry.db') == rows(db)
+    assert [path.name for path in (book / 'first').iterdir()] == ['registry.db']
+    if os.geteuid() == 0:
+        assert (book / 'first/registry.db').stat().st_uid == NOBODY
+    (conf / 'records.conf').write_text('as it was\n')
+    log = entries.Archive(state / 'archive')
+    entry = entries.read_entry(line_after(replica_undo.Point(0, 'f' * 64, '-')))
+    log.add(line_after(replica_undo.Point(0, 'f' * 64, '-')), entry,
+            entries.decided('', 200, b'', entries.NO_CHAIN))
+    first_copy()
+    assert (conf / 'records.conf').read_text() == 'as it was\n'
