@@ -11,6 +11,7 @@ A copy is a folder that is named by its day and time in UTC, such as 2025-04-05T
   SHA256SUMS         name and sum of each file but the last two; `sha256sum -c` reads it
 """
 import hashlib
+import json
 import os
 import pathlib
 import re
@@ -18,6 +19,8 @@ import shutil
 import stat
 import subprocess
 import time
+
+from owner import NotDone, as_owner, done_as_owner, owner_of
 
 LIST = 'SHA256SUMS'
 NAME = re.compile(r'\d{4}-\d\d-\d\d(T\d{6}Z)?')
@@ -53,28 +56,49 @@ def open_regular(path):
     return open(number, 'rb')
 
 
-def copy_file(source, target):
-    """Copies a regular file to a name at which nothing is."""
-    with open_regular(source) as old, open(target, 'xb') as new:
+def copy_into(source: pathlib.Path, target: int) -> None:
+    """Copies a regular file to where a number of an open file leads."""
+    with open_regular(source) as old, open(target, 'wb', closefd=False) as new:
         shutil.copyfileobj(old, new, 1 << 20)
-        new.flush()
-        os.fsync(new.fileno())
 
 
-def copy_database(database, folder):
-    """Copies a database that nobody has open, with the log beside it: a log that a kill has left belongs to its database."""
-    copy_file(database, folder / database.name)
-    for tail in LOGS:
-        log = database.with_name(database.name + tail)
-        if os.path.lexists(log):
-            copy_file(log, folder / log.name)
+def seen(files: list[pathlib.Path]) -> bytes:
+    """Which of these files are there, and what tells that one was written to, as JSON."""
+    there = [(file.name, file.lstat()) for file in files if os.path.lexists(file)]
+    return json.dumps([(name, of.st_ino, of.st_size, of.st_mtime_ns) for name, of in there]).encode()
 
 
-def tar(*words):
-    """Runs tar, which follows no link and opens no pipe. A file that went while it read the folder is no fault: the exchange replaces its files whole."""
-    run = subprocess.run(['tar', *map(str, words)], capture_output=True, text=True)
+def copy_database(database: pathlib.Path, folder: pathlib.Path) -> None:
+    """Copies a database that nobody writes to, with the log beside it: a log that a kill has left belongs to its database.
+
+    The owner of the database's folder reads it, and root writes the copy. It is not on the disk for certain before `sync`.
+    """
+    files = [database.with_name(f'{database.name}{tail}') for tail in ('', *LOGS)]
+    try:
+        [before] = as_owner(database.parent, lambda: iter([seen(files)]))
+        names = {name for name, *_ in json.loads(before)} | {database.name}
+        for file in files:
+            if file.name in names:
+                copy_one(file, folder)
+        [after] = as_owner(database.parent, lambda: iter([seen(files)]))
+    except NotDone as fault:
+        raise Unfit(str(fault)) from fault
+    if before != after:
+        raise Unfit(f'{database}: it was written to while it was copied')
+
+
+def copy_one(file: pathlib.Path, folder: pathlib.Path) -> None:
+    with open(folder / file.name, 'xb') as new:
+        done_as_owner(file.parent, lambda: copy_into(file, new.fileno()))
+
+
+def tar(*words: object, folder: pathlib.Path, **streams: object) -> None:
+    """Runs tar in a folder, as its owner. It follows no link and opens no pipe. A file that went while it read the folder is no fault: the exchange replaces its files whole."""
+    owner = owner_of(folder)
+    user = {'user': owner.user, 'group': owner.group, 'extra_groups': ()} if owner else {}
+    run = subprocess.run(['tar', '--directory', str(folder), *map(str, words)], stderr=subprocess.PIPE, **user, **streams)
     if run.returncode > 1:
-        raise Unfit(f'tar: {run.stderr.strip()}')
+        raise Unfit(f'tar: {run.stderr.decode(errors="replace").strip()}')
 
 
 def owner_only(folder):
@@ -83,9 +107,16 @@ def owner_only(folder):
     return [str(path.relative_to(folder)) for path in files if not path.stat().st_mode & 0o077]
 
 
-def archive(folder, target, without=()):
+def archive(folder: pathlib.Path, target: pathlib.Path, without: tuple[str, ...] | list[str] = ()) -> None:
     """Puts a folder into a tar file, with the owner and the mode of each file."""
-    tar('--create', '--file', target, '--directory', folder, '--one-file-system', '--anchored', '--no-wildcards', *(f'--exclude=./{name}' for name in without), '.')
+    with open(target, 'xb') as file:
+        tar('--create', '--file', '-', '--one-file-system', '--anchored', '--no-wildcards', *(f'--exclude=./{name}' for name in without), '.', folder=folder, stdout=file)
+
+
+def unpack(source: pathlib.Path, folder: pathlib.Path, *words: str) -> None:
+    """Puts what a tar file holds into a folder."""
+    with open(source, 'rb') as file:
+        tar('--extract', '--file', '-', '--same-permissions', *words, folder=folder, stdin=file)
 
 
 def sum_of(path):

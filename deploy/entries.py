@@ -139,6 +139,11 @@ def hash_of(line):
     return hashlib.sha256(line).hexdigest()
 
 
+def fingerprint(caller, route, body):
+    """By what a request is known that was set aside, whenever it comes again."""
+    return hashlib.sha256(f'{caller} {route} '.encode() + body).hexdigest()
+
+
 BEGIN, MIDDLE = b'{"entry":', b'},"mac":"'            # a quote inside a text is escaped, so the second stands in a line once
 
 

@@ -11,13 +11,13 @@ A message is a tuple. The first process says                This one says
     ('soon',)          an entry comes next, after its append    ('failed', entry, why)           the registry gave no outcome: what now?
     ('late',)          it does not: the disk is full            ('waits', why)                   why it waits; '' once it goes on
     ('version', text)  of the registry's program                ('halted', why)                  for good
-    ('again',)         ask the registry once more               ('audit',), then ('digest', ..)  the audit begins; n, h, chain, digest, audit's hash
+    ('again',)         ask the registry once more               ('held', why, n, h, chain)       between two entries; nothing is applied until `go`
     ('aside',)         the entry is set aside                   ('synced', n)                    archive and place are on the disk up to here
-    ('digest',)        between two entries
+    ('hold',)          stop between two entries
+    ('go',)            go on with the next entry
     ('sync',)          archive and place to the disk
 """
 import collections
-import hashlib
 import marshal
 import os
 import pathlib
@@ -125,6 +125,7 @@ class Applier:
         self.queue, self.told = collections.deque(), []         # texts that wait to be applied, and outcomes that wait to be told
         self.asked, self.verdict = set(), ''                    # what else the first process wants, and what it said of an entry that failed
         self.version, self.halted, self.why = '', False, ''
+        self.held = False                       # nothing is applied, since the registry's file is copied
 
     # -------------------------------------------------------------- the pair
 
@@ -157,7 +158,7 @@ class Applier:
             elif kind != 'soon':
                 self.asked.add(kind)
         if kind == 'soon':
-            if not self.why:
+            if not self.why and not self.held:
                 self.registry.ahead()
             self.hear()                         # the next message comes before the first process does anything else
 
@@ -217,8 +218,8 @@ class Applier:
         if 'sync' in asked:
             self.sync()
             self.say('synced', self.place.n)
-        if 'digest' in asked:
-            self.digest()
+        if 'hold' in asked:
+            self.hold('asked')
 
     def tell_place(self):
         self.say('place', self.place.n, self.place.h, self.place.chain)
@@ -256,7 +257,7 @@ class Applier:
         self.finish(line, entry, h or entries.hash_of(line), answer)
         if self.words.etcd and entry.n % self.words.digest == 0:
             self.tell()
-            self.digest()
+            self.hold('digest')
 
     def finish(self, line, entry, h, answer):
         """What is left once the registry has decided an entry."""
@@ -355,24 +356,26 @@ class Applier:
                 self.tell_place()
         self.place.sync()
 
-    # -------------------------------------------------------------- digests
+    # -------------------------------------------------------------- the registry's file
 
-    def digest(self):
-        """Between an entry and the next: the hash of the audit."""
+    def hold(self, why):
+        """Between an entry and the next nobody writes to the registry's file. One more answer shows that the registry has done with the entry before."""
         self.registry.leave()
-        self.say('audit')
-        audit, chain = self.audit(), self.place.chain
-        self.say('digest', self.place.n, self.place.h, chain, hashlib.sha256(chain.encode() + audit).hexdigest(), hashlib.sha256(audit).hexdigest())
+        self.settle()
+        self.held = True
+        self.say('held', why, self.place.n, self.place.h, self.place.chain)
+        while 'go' not in self.asked:
+            self.listen()
+        self.asked.discard('go')
+        self.held = False
 
-    def audit(self):
+    def settle(self):
         while True:
             try:
-                answer = self.registry.ask('GET', '/v1/audit', 'ISSUER')
-                if answer.status == 200:
-                    return answer.body
+                self.registry.ask('GET', '/', 'ISSUER')
+                return self.registry.leave()
             except BROKEN:
-                pass
-            self.listen(0.5)
+                self.listen(0.5)
 
 
 def crash_once(n):

@@ -1,15 +1,20 @@
-"""Copies of a registry that are brought up to date by its log, and the check of an archive against one.
+"""Copies of a registry that has a log: each is the live file at an entry, and what the log makes of the copy before. And the check of an archive against copies.
 
 A copy is a folder as copies.py describes it, with place.json: the entry that the database has applied last, its hash, and the chain of outcomes up
 to it. So each copy also holds a hash of its day, over all that came before.
 """
-import csv, hashlib, io, json, os, pathlib, re, shutil, subprocess, tempfile, time
+import csv, io, json, os, pathlib, re, shutil, subprocess, sys, tempfile, time, zlib
 
 import copies, entries, replica_roles
+from owner import NotDone, as_owner
+from replica_hold import held
+from replica_rows import differences
 
 EXCHANGE, CONFIGURATION = (pathlib.Path(os.environ.get(name) or otherwise) for name, otherwise in (("GOO_EXCHANGE", "/var/lib/goo-exchange"), ("GOO_CONFIGURATION", "/etc/goo")))
 STATUSES = (200, 400, 403, 409, entries.SET_ASIDE)
-LINES, BYTES = 20000, 16 << 20          # of one `goo run`
+LINES, BYTES = 20000, 16 << 20          # of one `goo run`, which takes no more bytes; the longest line has a body of 1 MiB
+HOLDS = 3                               # how often the live file is copied anew, where a copying did not end while it was held
+csv.field_size_limit(sys.maxsize)       # the program has no limit of a field
 
 
 def read_place(copy):
@@ -40,7 +45,8 @@ class Replay:
     """
 
     def __init__(self, goo, db):
-        self.goo, self.db = goo, db
+        """`goo` is the program, or the words that run it."""
+        self.goo, self.db = [goo] if isinstance(goo, str) else goo, db
         self.lines, self.asked, self.size = [], [], 0       # asked: the record, and what each line has to come to
 
     def take(self, record):
@@ -63,17 +69,18 @@ class Replay:
                 self.add(record, declare(row), b"refused" if outcome == b"refused" else b"accepted")
 
     def add(self, record, request, wanted):
-        self.lines.append(record.entry.caller.encode() + b" " + request + b"\n")
-        self.asked.append((record, wanted))
-        self.size += len(self.lines[-1])
-        if len(self.lines) >= LINES or self.size > BYTES:
+        line = record.entry.caller.encode() + b" " + request + b"\n"
+        if len(self.lines) >= LINES or self.size + len(line) > BYTES:
             self.flush()
+        self.lines.append(line)
+        self.asked.append((record, wanted))
+        self.size += len(line)
 
     def flush(self):
         """Has the program carry out what was gathered."""
         if not self.lines:
             return
-        done = subprocess.run([self.goo, "run", "--db", self.db], input=b"".join(self.lines), capture_output=True)
+        done = subprocess.run([*self.goo, "run", "--db", self.db], input=b"".join(self.lines), capture_output=True)
         if done.returncode not in (0, 1) or done.stderr:
             raise entries.Broken(f"goo run: {done.stderr.decode(errors='replace').strip()} (status {done.returncode})")
         answers = done.stdout.splitlines()
@@ -96,7 +103,7 @@ def as_row(answer):
 
 
 def rows_of(body):
-    """The rows of a table, after its header."""
+    """The rows of a table, after its header, as the program has them: it goes by bytes, and a field may have any of them."""
     text = body.decode("latin-1").removeprefix("\xef\xbb\xbf")
     return [row for row in csv.reader(io.StringIO(text, newline="")) if row][1:]
 
@@ -106,10 +113,28 @@ def declare(row):
     return entries.compact({"command": "declare", "key": key, "device": device, "first_day": first, "last_day": last, "gross_wh": int(gross), "aux_wh": int(aux)})
 
 
+def records_of(archive, after, key, state=None):
+    """The records after entry `after`, in order, each checked. The archive is opened by whoever owns the replica's folder."""
+    last = None
+    try:
+        for line in as_owner(state or archive.parent, lambda: (line for _, line, _ in entries.whole_lines(archive, after, None, 0))):
+            n = entries.number_in(line)
+            if n < after:
+                continue
+            record = entries.read_record(line, key)
+            entries.follows(last, record)
+            last = record
+            if n > after:
+                yield record
+    except (entries.Broken, NotDone, OSError, EOFError, zlib.error) as fault:
+        where = f"the line of entry {last.entry.n + 1}" if last else f"the line of entry {after or 1}, or one before it,"
+        raise entries.Broken(f"{archive}: {where} does not hold: {fault}") from fault
+
+
 def bring_up(goo, db, archive, place, key, last=None):
     """Applies the entries after a place to a database, up to entry `last`; the place after them."""
     replay, now = Replay(goo, db), dict(place)
-    for record in entries.read_archive(archive, place["n"], key):
+    for record in records_of(archive, place["n"], key):
         if last is not None and record.entry.n > last:
             break
         if (record.entry.n, record.entry.prev) != (now["n"] + 1, now["hash"]):
@@ -135,28 +160,72 @@ def first_copy(goo, db, folder, place):
     """A copy of a database that nothing writes to, at a place."""
     def fill(part):
         copies.copy_database(db, part)
+        write_audit(goo, part)
         return place
-    return new_copy(goo, folder, fill)
+    return new_copy(folder, fill)
 
 
-def next_copy(goo, folder, archive, key, live):
-    """The last copy with the entries since, up to where the live registry is. `live` is what a replica's /replica/digest said."""
+def next_copy(goo, folder, archive, key, db, door):
+    """The live file as it stands at an entry, and the copy before. What the log makes of the copy before has to have the same rows."""
     before = placed_copies(folder)
     if not before:
         raise entries.Broken(f"{folder}: no copy with a place in it: make one by `replica-log first-copy` while registry and replica are stopped")
 
     def fill(part):
-        copies.copy_database(before[-1] / "registry.db", part)
-        now = bring_up(goo, part / "registry.db", archive, read_place(before[-1]), key, live["n"])
-        if (now["hash"], now["chain"]) != (live["hash"], live["chain"]):
+        place = copy_held(door, db, part)
+        write_audit(goo, part)
+        replayed = part.with_name("part-replayed")
+        replayed.mkdir(mode=0o700)
+        copies.copy_database(before[-1] / "registry.db", replayed)
+        now = bring_up(goo, replayed / "registry.db", archive, read_place(before[-1]), key, place["n"])
+        if (now["hash"], now["chain"]) != (place["hash"], place["chain"]):
             raise entries.Broken(f"entry {now['n']}: archive and replica differ in its hash or in the chain of outcomes")
-        if hashlib.sha256(audit(goo, part / "registry.db")).hexdigest() != live["audit"]:
-            raise entries.Broken(f"at entry {now['n']} the audit of the copy is not that of the live registry")
-        return {**now, "version": live["version"]}
-    return new_copy(goo, folder, fill), before[-1]
+        hold_against(part, replayed, now["n"], before[-1])
+        shutil.rmtree(replayed)
+        return place
+    return new_copy(folder, fill), before[-1]
 
 
-def new_copy(goo, folder, fill):
+def copy_held(door, db, part):
+    """Copies the live file while the replica that listens at `door` applies nothing; the place at which it stands."""
+    for _ in range(HOLDS):
+        try:
+            with held(door) as hold:
+                began = time.monotonic()
+                copies.copy_database(db, part)
+                if hold.lasts():
+                    print(f"entry {hold.n}: nothing was applied for {time.monotonic() - began:.2f} s, while {db} was copied", flush=True)
+                    return hold.place()
+            why = "the replica went on while it was copied"
+        except copies.Unfit as fault:
+            why = str(fault)
+        for path in part.iterdir():
+            path.unlink()
+    raise entries.Broken(f"{db}: not copied in {HOLDS} tries: {why}")
+
+
+def hold_against(live, replayed, n, before):
+    """Raises Broken where a row of the live file is not what the log makes of the copy before. Both files are then kept."""
+    found = list(differences(live / "registry.db", replayed / "registry.db", ("the live file", "the log")))
+    if not found:
+        return
+    kept = live.with_name(f"differs-{copies.name_now()}")
+    for old in sorted(live.parent.glob("differs-*"))[1:]:
+        shutil.rmtree(old)                              # the first one and the last one stay
+    kept.mkdir(mode=0o700)
+    (kept / "differences.txt").write_text("".join(f"{one.told()}\n" for one in found))
+    live.rename(kept / "live")
+    replayed.rename(kept / "replayed")
+    raise entries.Broken(f"at entry {n} the live file is not what the log makes of {before.name}. {'. '.join(one.told() for one in found[:5])}. {len(found)} rows are told "
+                         f"in {kept}/differences.txt, and both files are kept there. No copy was made")
+
+
+def write_audit(goo, part):
+    """The program reads the copied database whole, and its log goes into it."""
+    (part / "audit.txt").write_bytes(audit(goo, part / "registry.db"))
+
+
+def new_copy(folder, fill):
     """A copy with its own name; it appears whole or not at all."""
     folder = pathlib.Path(folder)
     for old in folder.glob("part-*"):
@@ -164,7 +233,6 @@ def new_copy(goo, folder, fill):
     part = folder / f"part-{copies.name_now()}"
     part.mkdir(mode=0o700)
     place = fill(part)
-    (part / "audit.txt").write_bytes(audit(goo, part / "registry.db"))
     write_place(part, place["n"], place["hash"], place["chain"], place["version"])
     beside(part)
     copies.write_list(part)
@@ -187,25 +255,39 @@ def beside(part):
 
 # ------------------------------------------------------------------ whether an archive is what it says
 
-def verify(goo, archive, key, copy, folder):
-    """The lines that tell what holds. Raises Broken at the first entry that does not."""
-    first = last = None
-    hashes = {read_place(one)["n"]: one for one in placed_copies(folder)} if folder else {}
-    for record in entries.read_archive(archive, 0, key):
-        first, last = first or record, record
+def verify(goo, archive, key, copy, folder, begin=1):
+    """The lines that tell what holds, from entry `begin` on. Raises Broken at the first entry that does not, and where a copy is of an entry that is not there."""
+    first, last, own = None, None, placed_copies(folder) if folder else []
+    places = {one.name: read_place(one) for one in own}
+    for record in records_of(archive, begin - 1, key):
+        if first is None:
+            first = record.entry
+            if first.n != begin:
+                raise entries.Broken(f"{archive}: it begins at entry {first.n}, and not at {begin}. Where this is as it should be: --from {first.n}")
+            yield from met(places, begin - 1, first.prev, None)
+        last = record
         if record.outcome.status not in STATUSES:
             raise entries.Broken(f"entry {record.entry.n}: {record.outcome.status} is no outcome")
-        if one := hashes.pop(record.entry.n, None):
-            place = read_place(one)
-            if (place["hash"], place["chain"]) != (record.hash, record.outcome.chain):
-                raise entries.Broken(f"entry {record.entry.n}: {one} has another hash of that day")
-            yield f"the hash of {one.name} is that of entry {record.entry.n}"
+        yield from met(places, record.entry.n, record.hash, record.outcome.chain)
     if last is None:
-        raise entries.Broken(f"{archive}: no entries")
-    yield f"entries {first.entry.n} to {last.entry.n}: numbers, hashes, chain of outcomes{' and keyed hashes' if key else ''} hold; entry {last.entry.n} has the hash {last.hash}"
+        raise entries.Broken(f"{archive}: it has no entry {begin}")
+    for name, place in places.items():
+        if place["n"] > last.entry.n:
+            raise entries.Broken(f"{name} is of entry {place['n']}, and the archive ends at entry {last.entry.n}")
+        yield f"{name} is of entry {place['n']}, before entry {begin}: not held against the archive"
+    yield f"entries {begin} to {last.entry.n}: numbers, hashes, chain of outcomes{' and keyed hashes' if key else ''} hold; entry {last.entry.n} has the hash {last.hash}"
     if copy:
         place = read_place(copy)
         with tempfile.TemporaryDirectory(prefix="goo-verify-") as part:
             copies.copy_database(copy / "registry.db", pathlib.Path(part))
             now = bring_up(goo, pathlib.Path(part) / "registry.db", archive, place, key)
         yield f"entries {place['n'] + 1} to {now['n']}, applied to {copy}, come to the outcomes of the archive"
+
+
+def met(places, n, h, chain):
+    """The copies of entry n, which have to have its hash and, where it is known, its chain. They are taken out of `places`."""
+    for name in [name for name, place in places.items() if place["n"] == n]:
+        place = places.pop(name)
+        if place["hash"] != h or chain is not None and place["chain"] != chain:
+            raise entries.Broken(f"entry {n}: {name} has another hash of that day: it was changed, or it is of another log")
+        yield f"the hash of {name} is that of entry {n}"

@@ -5,7 +5,7 @@ method, the path and four fields that the front door sets: GOO-Caller, GOO-User,
 `reads`, the least. A fifth one, GOO-Confirm, names a day that is confirmed on this host: it counts from root alone, and from this
 process' own user, by the Unix socket. The front door sends none.
 """
-import asyncio, dataclasses, functools, math, os, re, socket, struct, time
+import asyncio, dataclasses, functools, math, os, re, socket, struct, time, typing
 
 import bounds
 from replica_registry import Answer, address_of
@@ -41,6 +41,7 @@ class Call:
     confirmed: str                              # a day
     body: bytes = b""
     gone: bool = False                          # the client has closed its end
+    end: typing.Callable | None = None          # closes a connection that stays open after its answer
 
 
 def plain(status, why=""):
@@ -151,18 +152,21 @@ class Connection(asyncio.Protocol):
         if self.call:
             self.call.gone = True
 
-    def answer(self, answer, fields):
-        """Sends the answer with further fields, and closes once all of it is sent."""
+    def answer(self, answer, fields, stays=False):
+        """Sends the answer with further fields, and closes once all of it is sent. Where it stays open, whoever called closes it by `end`."""
         self.leave()
-        self.answered, self.until = True, time.monotonic() + SEND
+        self.answered, self.until = True, math.inf if stays else time.monotonic() + SEND
         if self.transport.is_closing():
             return                              # the client has gone
         if answer.allow:
             fields["Allow"] = answer.allow
         more = "".join([f"{name}: {value}\r\n" for name, value in fields.items()])
-        head = f"HTTP/1.1 {answer.status} {PHRASES.get(answer.status, 'Other')}\r\nContent-Type: {answer.kind}\r\n{more}Content-Length: {len(answer.body)}\r\nConnection: close\r\n\r\n"
+        head = f"HTTP/1.1 {answer.status} {PHRASES.get(answer.status, 'Other')}\r\nContent-Type: {answer.kind}\r\n{more}Content-Length: {len(answer.body)}\r\nConnection: {'keep-alive' if stays else 'close'}\r\n\r\n"
         self.transport.write(head.encode("latin-1") + (b"" if self.call and self.call.method == "HEAD" else answer.body))
-        self.transport.close()
+        if stays:
+            self.call.end = self.transport.abort
+        else:
+            self.transport.close()
 
 
 class Door:

@@ -12,7 +12,7 @@ def health(replica):
     end, why = replica.store.last.n, replica.halted if replica.words.reads_only else replica.trouble()
     behind = max(0, end - replica.place.n)
     said = {"replica": replica.words.name, "entry": replica.place.n, "end": end, "behind": behind, "ok": not why, "why": why, "hash": replica.place.h, "chain": replica.place.chain,
-            "version": replica.version, "aside": replica.counts["aside"]}
+            "version": replica.version, "aside": replica.counts["aside"], "digest": replica.undigested}
     return Answer(503 if why or behind > BEHIND else 200, "application/json", json.dumps(said).encode() + b"\n")
 
 

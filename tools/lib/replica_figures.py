@@ -164,9 +164,7 @@ def large(words, count):
         host = cluster.hosts[0]
         cluster.even(300)
         rows = must("sqlite3", sorted((cluster.folder / "copies").glob("*/registry.db"))[0], "SELECT count(*) FROM receipt").strip()
-        began = time.monotonic()
-        ask(host, "GET", "/replica/digest", "", b"", 300)
-        print(f"     {rows} accepted requests, {os.path.getsize(begun) >> 20} MiB; the audit between two entries takes {time.monotonic() - began:.2f} s; load {os.getloadavg()[0]:.1f}", flush=True)
+        print(f"     {rows} accepted requests, {os.path.getsize(begun) >> 20} MiB; load {os.getloadavg()[0]:.1f}", flush=True)
         before, _ = asked_during(host, lambda: time.sleep(10))
         while_copied, took = asked_during(host, lambda: host.op("copy"))
         for what, waits in (("without a copy", before), ("while it is copied", while_copied)):

@@ -196,14 +196,13 @@ def tampered(cluster, work):
     check("a forged digest of one: all go on, the others warn", all(h.health().get("ok") for h in cluster.hosts) and "WARNING" in one.log("replica") and "WARNING" in three.log("replica"), one.log("replica")[-300:])
     two.hold("replica"), two.hold("goo")
     folder = two.disk / "goo"
-    run(GOO, "audit", "--db", folder / "registry.db")
-    must("sqlite3", folder / "registry.db", "UPDATE meta SET next_account = next_account + 1")
+    run(GOO, "run", "--db", folder / "registry.db", input='ISSUER {"command":"open_holder","key":"behind-the-log","holder":"BEHIND","name":"B"}\n')
     two.release("goo"), two.release("replica")
     n = cluster.even(60)
     to = (n // 100 + 1) * 100
     answered = some(work, to - n + 3, 0, "tamper")
     health = two.says("came to something else")
-    check(f"a row of one registry was changed by hand: it is outvoted at entry {to} and takes nothing: {health.get('why')}", "came to something else" in health.get("why", "") and answered, (health, two.log("replica")[-300:]))
+    check(f"one registry has a holder that is not in the log, and all outcomes are the same: it is outvoted at entry {to} and takes nothing: {health.get('why')}", "came to something else" in health.get("why", "") and answered, (health, two.log("replica")[-300:]))
     check("the two others go on", cluster.even(30, [one, three]) and some(work, 5, 0, "majority") == 5)
     begin_from(two, one)
     check("begun from a copy, it is in the majority", cluster.even(90), two.log("replica")[-300:])

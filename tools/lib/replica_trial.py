@@ -51,7 +51,7 @@ class Host:
         self.alone = cluster.count == 1
         self.ns, self.address = (None, "127.0.0.1") if self.alone else (f"gr{os.getpid()}-{i}", f"10.99.0.{i}")
         self.port, self.inner = (client.free_port(), client.free_port()) if self.alone else (8470, 8471)
-        self.names = ("goo", "replica") if self.alone else ("etcd", "goo", "replica")
+        self.names = ("goo", "replica") if self.alone else ("etcd", "rows", "goo", "replica")
         self.processes, self.held, self.again_at, self.env, self.words = {}, set(), {}, {}, []
         self.starts = collections.Counter()
         self.goo_port = self.inner
@@ -85,9 +85,12 @@ class Host:
     def command(self, name):
         if name == "etcd":
             return self.etcd_command()
+        if name == "rows":
+            socket = self.folder / "rows.sock"
+            return ["sh", "-c", f"rm -f {socket}; exec systemd-socket-activate --accept --inetd --listen {socket} {REPLICA.parent}/rows-digest --db {self.disk}/goo/registry.db --into {self.folder}"]
         if name == "goo":
             return [GOO, "serve", "--db", self.disk / "goo/registry.db", "--port", str(self.inner), "--count", "1000000000"]
-        return [REPLICA, *self.common(), "--listen", f"127.0.0.1:{self.port}", "--registry", f"127.0.0.1:{self.goo_port}", "--digest", "100",
+        return [REPLICA, *self.common(), "--listen", f"127.0.0.1:{self.port}", "--registry", f"127.0.0.1:{self.goo_port}", "--digest", "100", "--rows", self.folder / "rows.sock",
                 *(["--store", self.state / "log"] if self.alone else []), "--version", f"@{self.folder}/version", *self.words]
 
     def etcd_command(self):
