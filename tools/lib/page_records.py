@@ -591,18 +591,19 @@ class Seen:
     def held(self, account):
         return statement(self.place, account)[1]['held']
 
-    def choose_quantity(self, address, count, order):
+    def choose_quantity(self, address, count, order, act='to transfer'):
         self.b.go(address, '.quantity')
         self.b.see('#quantity').send_keys(count)
+        self.b.see('#quantity-act').send_keys(act)
         self.b.see('#quantity-order').send_keys(order)
         self.b.press('.quantity button', 'Choose')
 
     def quantity(self):
         b, check = self.b, self.check
-        self.choose_quantity('holdings/1', '999,999', 'the oldest')
+        self.choose_quantity('holdings/1', '999,999', 'the oldest', 'to cancel')
         b.see('.quantity .result', '999,999 were asked for')
         check("more than there is can't be chosen, and the page says how many there are", f'{self.held(1):,} certificates' in b.text('.quantity .result'))
-        self.choose_quantity('holdings/1/tradable=1', '1,000', 'the fewest')
+        self.choose_quantity('holdings/1', '1,000', 'the oldest')
         got = b.text('.chosen', '1,000 certificates').replace('\n', ' ')
         check('a quantity is chosen', got.startswith('1,000 certificates chosen in'), got)
         before = [self.held(account) for account in (1, 2)]
@@ -653,7 +654,7 @@ class Seen:
 
     def cancel_many(self):
         b, check = self.b, self.check
-        self.choose_quantity('holdings/1', '1,200', 'the oldest')
+        self.choose_quantity('holdings/1', '1,200', 'the oldest', 'to cancel')
         b.press('.chosen button', 'Cancel')
         b.fill('bundle', beneficiary='Stadtwerke Nordheim', use_first='2023-10-01', use_last='2024-06-30')
         before = self.held(1)
@@ -701,7 +702,7 @@ class Seen:
 
     def export_many(self):
         b, check = self.b, self.check
-        self.choose_quantity('holdings/3/tradable=1', '600', 'the soonest')
+        self.choose_quantity('holdings/3', '600', 'the soonest')
         b.press('.chosen button', 'Export')
         b.fill('bundle', peer='9', account='5')
         before = self.held(3)
