@@ -379,7 +379,7 @@ class Seen:
                            'correct': 'Berichtigen', 'withdraw': 'Zurückziehen', 'exchange': 'Austausch', 'date': 'Datum', 'lists/holders': 'Inhaber', 'history//outcome=refused': 'Verlauf',
                            'lists/entered': 'Von der ausstellenden Stelle eingegeben', 'declare': 'Erzeugung melden'})
         self.b.go('history//outcome=refused', 'table')
-        check('a refusal for a role in German', any(row[6] == 'abgelehnt: Rolle „nur lesen“' and row[8].endswith('von paula') for row in cells(b)), cells(b)[:3])
+        check('a refusal in German', any(row[6] == 'abgelehnt: OverCapacity' and row[8].endswith('von office') for row in cells(b)), cells(b)[:3])
         check('the foot of the page in German', b.text('footer') == 'Für Programme, beschrieben durch OpenAPI: das Register, die Vorgänge', b.text('footer'))
         self.upload_file('slips-de.csv', ['s1,600000000000000012,2025-01-01,2025-01-31,1.5,0', 's2,5.00E+17,2025-13-01,,1,0', f's3,{gsrn(1)},2025-01-01,2025-02-01,1,2'])
         got = b.text('.result.bad')
@@ -543,7 +543,7 @@ class Seen:
         b.go('withdraw')
         check('nor by its address', not b.d.find_elements(By.CSS_SELECTOR, 'form.withdraw') and b.text('h1') == 'Audit', b.text('h1'))
         b.go('history', 'table')
-        check('he sees what others see of the issuing body', 'role “read only”' in b.text('main'))
+        check('he sees what others see of the issuing body', 'by office' in b.text('main'))
         got = b.script("return (await fetch('/v1/requests', {method: 'POST', body: '{}'})).status")
         check('and the front door refuses what the page leaves out', got == 403, got)
 
