@@ -48,14 +48,14 @@ class Same:
         first, last = self.spans[-1] if self.spans else (line, line - 1)
         if last == line - 1:
             self.spans[-1:] = [(first, line)]
-        elif len(self.spans) <= SPANS:
+        elif len(self.spans) < SPANS:
             self.spans.append((line, line))
 
     @property
     def lines(self) -> str:
         """The first lines, as 1-3,7."""
-        named = self.spans[:SPANS]
-        return ','.join(f'{first}-{last}' if last > first else f'{first}' for first, last in named)
+        texts = (f'{first}-{last}' if last > first else f'{first}' for first, last in self.spans)
+        return ','.join(texts)
 
 
 @dataclass

@@ -54,24 +54,28 @@ export const chosen = {
     })}, t`Choose all of these`);
     return [button, told];
   },
-  /** Chooses a quantity of what fits the filters, in an order. `find({count, order})` answers with ranges that add up to it. */
-  quantityForm(find) {
+  /** Chooses a quantity of what fits the filters, for one of these acts and in an order. `find({count, act, order})` answers with ranges that add up to it and that the act can take. */
+  quantityForm(find, acts) {
     const amount = h('input', {id: 'quantity', name: 'count', inputmode: 'numeric', autocomplete: 'off'}), told = h('div', {'aria-live': 'polite'});
+    const act = h('select', {id: 'quantity-act', name: 'act', 'aria-label': t`What for`, hidden: acts.length < 2}, acts.map((value) => h('option', {value}, WHAT_FOR[value] ?? value)));
     const order = h('select', {id: 'quantity-order', name: 'order'}, Object.entries(ORDERS).map(([value, text]) => h('option', {value}, text)));
     const onsubmit = async (event) => {
       event.preventDefault();
       told.replaceChildren();
       try {
-        const {items} = await find({count: ungrouped(amount.value), order: order.value});
+        const {items} = await find({count: ungrouped(amount.value), act: act.value, order: order.value});
         this.rows.clear();
         for (const of of items) this.set(of, 'run', true);
         this.tell();
       } catch (fault) { told.replaceChildren(result(problemOf(fault))); }
     };
-    return h('form', {class: 'quantity', novalidate: true, onsubmit, 'aria-label': t`Choose a quantity`}, h('label', {for: 'quantity'}, t`Or a quantity`), amount, h('label', {for: 'quantity-order'}, t`of`), order,
+    return h('form', {class: 'quantity', novalidate: true, onsubmit, 'aria-label': t`Choose a quantity`}, h('label', {for: 'quantity'}, t`Or a quantity`), amount, act, h('label', {for: 'quantity-order'}, t`of`), order,
       h('button', {type: 'submit'}, t`Choose`), told);
   },
 };
+
+/** What a quantity is for: trade takes certificates whose trade is open alone. */
+const WHAT_FOR = {transfer: t`to transfer or export`, cancel: t`to cancel`};
 
 /** In which order a quantity is made up. */
 const ORDERS = {oldest: t`the oldest production`, expiring: t`the soonest to expire`, fewest: t`the fewest ranges`};

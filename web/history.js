@@ -31,10 +31,13 @@ function paperOf(act) {
 /** The first of an act's ranges, and how many more there are. */
 const rangesOf = (act) => act.ranges.length === 0 ? '' : [between(number(act.ranges[0].first), number(act.ranges[0].last)), act.ranges_in_all > 1 ? t` and ${count(act.ranges_in_all - 1)} more` : ''];
 
+/** How many rows of a table an act tells of. */
+const rowsOf = (n) => n === 1 ? t`1 row` : t`${count(n)} rows`;
+
 const COLUMNS = [[t`When, UTC`, 'wide'], [t`Act`, 'wide'], [t`Count`, 'right'], [t`From`, 'wide'], [t`To`, 'wide'], [t`Certificates`, 'range'], [t`Outcome`, 'wide'], [t`Document`, 'wide'], [t`Note`, 'wide']];
 const far = (act) => act.kind === 'export' || act.kind === 'import' ? t`registry ${act.peer}` : '';
 const cells = (act) => Object.assign([whenOf(act), KINDS[act.kind], act.count ? count(act.count) : '', act.kind === 'import' ? far(act) : party(act.giver), act.kind === 'export' ? far(act) : party(act.taker), rangesOf(act),
-  outcome(act), paperOf(act), [act.device ?? '', act.device && act.note ? ', ' : '', act.note ? written(act.note) : '', act.user ? t` by ${act.user}` : '']], {kind: act.outcome === 'accepted' ? 'accepted' : 'refused'});
+  [outcome(act), act.lines ? [', ', rowsOf(act.rows)] : ''], paperOf(act), [act.device ?? '', act.device && act.note ? ', ' : '', act.note ? written(act.note) : '', act.user ? t` by ${act.user}` : '']], {kind: act.outcome === 'accepted' ? 'accepted' : 'refused'});
 
 const choices = (words) => [['', t`all`], ...Object.entries(words)];
 const FILTERS = [{name: 'account', label: t`Account`}, {name: 'kind', label: t`Act`, options: choices(KINDS)}, {name: 'outcome', label: t`Outcome`, options: choices(OUTCOMES)},
@@ -52,6 +55,7 @@ export async function act(id) {
   const of = await asked(`acts/${encodeURIComponent(id)}`);
   const known = [[t`When, UTC`, of.time?.slice(0, 19).replace('T', ' ')], [t`Registry’s date`, of.day], [t`Outcome`, outcome(of)], [t`Document`, paperOf(of)], [t`From`, party(of.giver)], [t`To`, party(of.taker)], [t`Registry`, far(of)],
     [t`Device`, of.device], [t`Holder`, of.holder], ['Wh', of.wh === null ? null : count(of.wh)], [t`Note`, of.note], [t`User`, of.user], [t`Role`, roleName(of.role)], [t`Caller`, of.caller], [t`Key`, of.key], [t`Entry of the log`, of.entry ? count(of.entry) : null],
+    [t`Rows of the table`, of.lines ? `${count(of.rows)}: ${of.lines}` : null],
     [t`Certificates`, of.count ? count(of.count) : null]].filter(([, value]) => value);
   return [h('h1', {}, t`Act ${of.id}: ${KINDS[of.kind]}`), h('div', {class: 'certificate'}, facts(known)),
     of.ranges.length ? table(t`${count(of.ranges.length)} ranges`, [[t`Certificates`, 'range'], [t`Count`, 'right'], [t`From account`], [t`Account`], [t`Place`]], of.ranges.map((r) =>

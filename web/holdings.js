@@ -25,7 +25,7 @@ export function accounts() {
 
 /** What the next weeks bring, in one line with a way to the list; nothing where they bring nothing. */
 export async function notice() {
-  const {items} = await asked('deadlines', {days: DAYS}).catch(() => ({items: []}));
+  const items = await everyItem('deadlines', {days: DAYS}).catch(() => []);
   const sum = (next) => items.filter((of) => of.next === next).reduce((n, of) => n + of.count, 0);
   const told = [sum('trade') ? t`trade closes for ${count(sum('trade'))}` : '', sum('expiry') ? t`${count(sum('expiry'))} expire` : ''].filter(Boolean);
   return items.length ? h('p', {class: 'result kept', role: 'note'}, t`Within ${DAYS} days, of the certificates held: ${told.join(t` and `)}. `, h('a', {href: '#deadlines'}, t`Which ones`)) : null;
@@ -33,7 +33,7 @@ export async function notice() {
 
 /** Lots of which something is held and whose trade closes, or that expire, soon. */
 export async function deadlines() {
-  const answer = await asked('deadlines', {days: DAYS});
+  const answer = {...await asked('deadlines', {days: DAYS, limit: 1}), items: await everyItem('deadlines', {days: DAYS})};
   const columns = [[t`Day`], [t`What`], [t`Count`, 'right'], [t`Account`], [t`Device`, 'wide'], [t`Period`, 'wide'], [t`Technology`, 'wide'], [t`Source`, 'wide'], ['', 'acts']];
   const row = (of) => Object.assign([day(of.next === 'trade' ? of.trade_until : of.expires_on), of.next === 'trade' ? t`trade closes` : t`expire`, count(of.count), of.account, [written(of.site), ' ', h('span', {class: 'code'}, of.device)],
     between(of.first_day, of.last_day), coded('tech', of.tech), coded('source', of.source), h('a', {href: `#holdings/${of.account}/${new URLSearchParams({device: of.device, from: of.first_day, to: of.last_day})}`}, t`holdings`)],
@@ -92,7 +92,7 @@ export async function holdings(account, said) {
   const row = (of, {by, ...rest}) => isOfLots(by) ? [...(isChosenBy(by) ? [chosen.box(of, by)] : []), ...(by === 'run' ? [between(number(of.first), number(of.last))] : []), ...lotCells(of), count(of.count), ...(by === 'lot' ? [count(of.runs)] : [])]
     : groupCells(of, by, at, rest);
   const summary = ({sum}, values) => h('div', {class: 'summed'}, h('p', {}, h('b', {}, t`${count(sum.count)} certificates`), ' ', t`in ${count(sum.lots)} lots and ${count(sum.runs)} runs`),
-    isChosenBy(values.by) && sum.count && at ? [chosen.allButton(() => everyItem('holdings', {...only(values), account: at, by: values.by})), chosen.quantityForm((asking) => asked('choice', {...only(values), account: at, ...asking}))] : null);
+    isChosenBy(values.by) && sum.count && at ? [chosen.allButton(() => everyItem('holdings', {...only(values), account: at, by: values.by})), chosen.quantityForm((asking) => asked('choice', {...only(values), account: at, ...asking}), session.isIssuer ? ['withdraw'] : ['transfer', 'cancel'])] : null);
   const list = listing({name: 'holdings', fixed: {account: at}, given, filters: await filters(at), columns, row, summary, caption: stands, empty: t`Nothing is held that fits.`, changed});
   return [h('h1', {}, t`Holdings`), switcher(own, at), list, toolbar(ways())];
 }

@@ -53,6 +53,7 @@ export async function followed(entry) {
 
 async function problemOf(answer) {
   const said = await answer.json().then((value) => value.error, () => null);
+  if (answer.status === 503 && said && !/^the records/.test(said)) return {good: false, title: t`The records are busy`, sentence: `${said[0].toUpperCase()}${said.slice(1)}.`};
   if (answer.status === 503 || answer.status === 502) return {good: false, title: t`The records are not there`, sentence: t`They are being made, or do not answer. The registry itself is not touched by this. Try again in a minute.`};
   return {...words.unread(answer.status), ...(said ? {sentence: `${said[0].toUpperCase()}${said.slice(1)}.`} : {})};
 }

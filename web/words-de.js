@@ -11,7 +11,7 @@ export const WORDS = {
   'No answer came for': 'Ohne Antwort geblieben', 'Send again': 'Noch einmal senden', 'Go on': 'Fortsetzen', 'Leave the rest': 'Rest verwerfen', 'Leave it': 'Verwerfen', 'Go back': 'Zurück', 'Is this meant?': 'Ist das so gemeint?',
   'This can’t be taken back.': 'Das lässt sich nicht zurücknehmen.', ' to ': ' bis ', 'Save as CSV': 'Als CSV speichern', 'Save as text': 'Als Text speichern', 'Print': 'Drucken', 'Page before': 'Vorige Seite', 'Next page': 'Nächste Seite',
   'Filters': 'Filter', 'Find': 'Suchen', 'Sort by {}': 'Ordnen nach {}', 'all': 'alle', 'none': 'keine', 'There is nothing here.': 'Hier ist nichts.', 'This is needed.': 'Das wird gebraucht.',
-  'By the registry’s date {}, entry {}': 'Nach dem Datum des Registers, {}, Eintrag {}', 'The records are not there': 'Die Aufzeichnungen sind nicht da',
+  'By the registry’s date {}, entry {}': 'Nach dem Datum des Registers, {}, Eintrag {}', 'The records are not there': 'Die Aufzeichnungen sind nicht da', 'The records are busy': 'Die Aufzeichnungen sind ausgelastet',
   'They are being made, or do not answer. The registry itself is not touched by this. Try again in a minute.': 'Sie werden gerade erstellt oder antworten nicht. Das Register selbst ist davon nicht berührt. Versuchen Sie es in einer Minute noch einmal.',
 
   // accounts and holdings
@@ -27,7 +27,7 @@ export const WORDS = {
   'investment': 'Investition', 'production': 'Erzeugung', 'both': 'beides', 'no support': 'keine Förderung', 'investment support': 'Investitionsförderung', 'production support': 'Förderung der Erzeugung', 'investment and production support': 'Förderung von Investition und Erzeugung',
   'electricity': 'Strom', 'gas': 'Gas', 'hydrogen': 'Wasserstoff', 'heating-cooling': 'Wärme und Kälte',
   '{} certificates, {} MWh': '{} Nachweise, {} MWh', '1 certificate, 1 MWh': '1 Nachweis, 1 MWh', '{} certificates': '{} Nachweise', '1 certificate': '1 Nachweis', 'in {} lots and {} runs': 'in {} Posten und {} Nummernfolgen', 'Nothing is held that fits.': 'Nichts im Bestand passt.', 'Choose all of these': 'Alle diese wählen', 'Choose {} {}, {}': 'Wählen: {} {}, {}', 'Chosen': 'Gewählt',
-  'Clear': 'Aufheben', 'chosen in {} lots': 'gewählt in {} Posten', 'chosen in {} runs': 'gewählt in {} Nummernfolgen', 'Choose a quantity': 'Eine Menge wählen', 'Or a quantity': 'Oder eine Menge:', 'of': 'nach', 'Choose': 'Wählen', 'the oldest production': 'ältester Erzeugung',
+  'Clear': 'Aufheben', 'chosen in {} lots': 'gewählt in {} Posten', 'chosen in {} runs': 'gewählt in {} Nummernfolgen', 'Choose a quantity': 'Eine Menge wählen', 'What for': 'Wofür', 'to transfer or export': 'zum Übertragen oder Exportieren', 'to cancel': 'zum Entwerten', 'Or a quantity': 'Oder eine Menge:', 'of': 'nach', 'Choose': 'Wählen', 'the oldest production': 'ältester Erzeugung',
   'the soonest to expire': 'frühestem Verfall', 'the fewest ranges': 'wenigsten Nummernbereichen', 'By month of production': 'Nach Monat der Erzeugung', 'This account has never held a certificate.': 'Dieses Konto hatte nie einen Nachweis.',
   'transfer': 'Übertragung', 'cancel': 'entwerten', 'withdraw': 'zurückziehen', 'correct': 'berichtigen', 'Save holdings as CSV': 'Bestand als CSV speichern',
 
@@ -46,7 +46,7 @@ export const WORDS = {
   'Outcome': 'Ergebnis', 'Note': 'Vermerk', 'From day': 'Ab Tag', 'To day': 'Bis Tag', 'Text in note, key, device or holder': 'Text in Vermerk, Schlüssel, Anlage oder Inhaber', 'issue': 'Ausstellung', 'cancellation': 'Entwertung', 'withdrawal': 'Zurückziehung', 'correction': 'Berichtigung', 'export': 'Export', 'import': 'Import',
   'expiry': 'Verfall', 'holder opened': 'Inhaber angelegt', 'account opened': 'Konto eröffnet', 'account closed': 'Konto geschlossen', 'device registered': 'Anlage eingetragen', 'date moved': 'Datum weitergestellt', 'registry added': 'Register hinzugefügt', 'unreadable': 'unlesbar', 'accepted': 'angenommen',
   'refused': 'abgelehnt', 'set aside': 'beiseitegelegt', 'cancellation {}': 'Entwertung {}', 'withdrawal {}': 'Zurückziehung {}', 'notice {}': 'Mitteilung {}', 'account {}': 'Konto {}', 'registry {}': 'Register {}', ' and {} more': ' und {} weitere', ' by {}': ' von {}', 'Registry’s date': 'Datum des Registers',
-  'Registry': 'Register', 'User': 'Benutzer', 'Caller': 'Auftraggeber', 'Key': 'Schlüssel', 'Role': 'Rolle', 'role “{}”': 'Rolle „{}“', 'full': 'voll', 'read only': 'nur lesen', 'declarations only': 'nur melden', 'Entry of the log': 'Eintrag im Protokoll', 'Act {}: {}': 'Vorgang {}: {}', '{} ranges': '{} Bereiche', 'Its life': 'Lebenslauf des Nachweises',
+  'Registry': 'Register', 'User': 'Benutzer', 'Caller': 'Auftraggeber', 'Key': 'Schlüssel', 'Role': 'Rolle', 'role “{}”': 'Rolle „{}“', 'full': 'voll', 'read only': 'nur lesen', 'declarations only': 'nur melden', 'Entry of the log': 'Eintrag im Protokoll', 'Rows of the table': 'Zeilen der Tabelle', 'Act {}: {}': 'Vorgang {}: {}', '{} ranges': '{} Bereiche', 'Its life': 'Lebenslauf des Nachweises',
 
   // lists
   'Declarations': 'Meldungen', 'Corrections': 'Berichtigungen', 'Cancellations': 'Entwertungen', 'Withdrawals': 'Zurückziehungen', 'Notices': 'Mitteilungen', 'Holders': 'Inhaber', 'Statistics': 'Statistik', 'Device (GSRN)': 'Anlage (GSRN)', 'Technology and source': 'Technologie und Energieträger',

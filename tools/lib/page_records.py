@@ -390,7 +390,7 @@ class Seen:
                            'correct': 'Berichtigen', 'withdraw': 'Zurückziehen', 'exchange': 'Austausch', 'date': 'Datum', 'lists/holders': 'Inhaber', 'history//outcome=refused': 'Verlauf',
                            'lists/entered': 'Von der ausstellenden Stelle eingegeben', 'declare': 'Erzeugung melden'})
         self.b.go('history//outcome=refused', 'table')
-        check('a refusal for a role in German', any(row[6] == 'abgelehnt: Rolle „nur lesen“' and row[8].endswith('von paula') for row in cells(b)), cells(b)[:3])
+        check('a refusal in German', any(row[6] == 'abgelehnt: OverCapacity' and row[8].endswith('von office') for row in cells(b)), cells(b)[:3])
         check('the foot of the page in German', b.text('footer') == 'Für Programme, beschrieben durch OpenAPI: das Register, die Vorgänge', b.text('footer'))
         self.upload_file('slips-de.csv', ['s1,600000000000000012,2025-01-01,2025-01-31,1.5,0', 's2,5.00E+17,2025-13-01,,1,0', f's3,{gsrn(1)},2025-01-01,2025-02-01,1,2'])
         got = b.text('.result.bad')
@@ -566,7 +566,7 @@ class Seen:
         b.go('withdraw')
         check('nor by its address', not b.d.find_elements(By.CSS_SELECTOR, 'form.withdraw') and b.text('h1') == 'Audit', b.text('h1'))
         b.go('history', 'table')
-        check('he sees what others see of the issuing body', 'role “read only”' in b.text('main'))
+        check('he sees what others see of the issuing body', 'by office' in b.text('main'))
         got = b.script("return (await fetch('/v1/requests', {method: 'POST', body: '{}'})).status")
         check('and the front door refuses what the page leaves out', got == 403, got)
 
@@ -614,18 +614,19 @@ class Seen:
     def held(self, account):
         return statement(self.place, account)[1]['held']
 
-    def choose_quantity(self, address, count, order):
+    def choose_quantity(self, address, count, order, act='to transfer'):
         self.b.go(address, '.quantity')
         self.b.see('#quantity').send_keys(count)
+        self.b.see('#quantity-act').send_keys(act)
         self.b.see('#quantity-order').send_keys(order)
         self.b.press('.quantity button', 'Choose')
 
     def quantity(self):
         b, check = self.b, self.check
-        self.choose_quantity('holdings/1', '999,999', 'the oldest')
+        self.choose_quantity('holdings/1', '999,999', 'the oldest', 'to cancel')
         b.see('.quantity .result', '999,999 were asked for')
         check("more than there is can't be chosen, and the page says how many there are", f'{self.held(1):,} certificates' in b.text('.quantity .result'))
-        self.choose_quantity('holdings/1/tradable=1', '1,000', 'the fewest')
+        self.choose_quantity('holdings/1', '1,000', 'the oldest')
         got = b.text('.chosen', '1,000 certificates').replace('\n', ' ')
         check('a quantity is chosen', got.startswith('1,000 certificates chosen in'), got)
         before = [self.held(account) for account in (1, 2)]
@@ -676,7 +677,7 @@ class Seen:
 
     def cancel_many(self):
         b, check = self.b, self.check
-        self.choose_quantity('holdings/1', '1,200', 'the oldest')
+        self.choose_quantity('holdings/1', '1,200', 'the oldest', 'to cancel')
         b.press('.chosen button', 'Cancel')
         b.fill('bundle', beneficiary='Stadtwerke Nordheim', use_first='2023-10-01', use_last='2024-06-30')
         before = self.held(1)
@@ -724,7 +725,7 @@ class Seen:
 
     def export_many(self):
         b, check = self.b, self.check
-        self.choose_quantity('holdings/3/tradable=1', '600', 'the soonest')
+        self.choose_quantity('holdings/3', '600', 'the soonest')
         b.press('.chosen button', 'Export')
         b.fill('bundle', peer='9', account='5')
         before = self.held(3)

@@ -77,7 +77,7 @@ def listed(service, name, rows):
         yield from ((viewer.code, row) for row in seen if row.get('caller', viewer.code) != viewer.code and any(row.get(name) for name in ('user', 'role', 'key')))
         yield from ((viewer.code, row) for row in seen for span in row.get('ranges', ()) if not {span['account'], span['from_account']} & viewer.accounts)
         file = service.text(viewer.code, name, format='csv', limit=SOME, **asked)
-        if file.count('\r\n') != (len(seen) if name == 'deadlines' else min(len(seen), SOME)) + 1:
+        if file.count('\r\n') != min(len(seen), SOME) + 1:
             yield viewer.code, 'as a file', file[:200]
 
 
@@ -114,7 +114,7 @@ def choice(service, rows):
     """An account of somebody else has nothing to choose from."""
     for viewer in VIEWERS:
         for account in {row['account'] for row in rows['holdings']}:
-            if service.ask(viewer.code, '/records/v1/choice', account=account, count=1)[0] != (200 if account in viewer.accounts else 409):
+            if service.ask(viewer.code, '/records/v1/choice', account=account, count=1, act='cancel')[0] != (200 if account in viewer.accounts else 409):
                 yield viewer.code, account
 
 

@@ -14,8 +14,8 @@ AT = 300
 SPOILED = {
     'an entry is missing': (lambda lines: lines[:AT - 1] + lines[AT:], f'entry {AT + 1} stands after entry {AT - 1}'),
     'the first entries are missing': (lambda lines: lines[9:], 'begins with entry 10, and the book would begin with entry 1'),
-    'a line is torn in the middle': (lambda lines: [*lines[:AT - 1], lines[AT - 1][:len(lines[AT - 1]) // 2], *lines[AT:]], f'after entry {AT - 1}: a line that is no entry'),
-    'a line is no entry at all': (lambda lines: [*lines[:AT - 1], b'nonsense', *lines[AT:]], f'after entry {AT - 1}: a line of the archive that is no entry'),
+    'a line is torn in the middle': (lambda lines: [*lines[:AT - 1], lines[AT - 1][:len(lines[AT - 1]) // 2], *lines[AT:]], f'entry {AT}, at byte '),
+    'a line is no entry at all': (lambda lines: [*lines[:AT - 1], b'nonsense', *lines[AT:]], f'entry {AT}, at byte '),
     'two entries have changed places': (lambda lines: [*lines[:AT - 1], lines[AT], lines[AT - 1], *lines[AT + 1:]], f'entry {AT + 1} stands after entry {AT - 1}'),
     'an outcome was changed': (lambda lines: [*lines[:AT - 1], lines[AT - 1].replace(b'"status":', b'"status":1', 1), *lines[AT:]], f'entry {AT}: its outcome is not the one that was chained'),
 }

@@ -141,7 +141,8 @@ def answers(tally, service, goo, folder, both):
     """The time of each kind of answer, and of the registry's own statement."""
     held = service.items(ACCOUNTS[1], 'holdings', by='run', account=1)[0]['first']
     for path, parameters in QUESTIONS:
-        (status, answer), told = times(lambda: service.ask(ACCOUNTS[1], f'/records/v1/{path.format(held=held)}', limit=1000, **parameters))
+        asked = parameters if '/' in path or path == 'choice' else {'limit': 1000, **parameters}
+        (status, answer), told = times(lambda: service.ask(ACCOUNTS[1], f'/records/v1/{path.format(held=held)}', **asked))
         tally.check(f'{path} {parameters or ""}: {told}', [(status, answer)] if status != 200 else [])
     with OwnStatement(goo, folder, both) as ask:
         text, told = times(ask)

@@ -7,12 +7,13 @@ from pathlib import Path
 
 import entries
 import pytest
+from house import DEPLOY
 from house import House
 from made_book import CODE
 from made_book import DAY
 from made_book import Made
 
-RECORDS = Path(__file__).resolve().parents[2] / 'deploy/records'
+RECORDS = DEPLOY / 'records'
 ADVICE = 'GOO_RECORDS_BEGIN=--copy COPY'
 
 

@@ -151,8 +151,9 @@ def test_a_question_ends_when_its_time_is_over(made: Made) -> None:
 
 
 def test_a_statement_ends_when_its_time_is_over(made: Made, monkeypatch: Any) -> None:
-    """One statement that would run for an hour is ended within its second."""
-    endless = 'WITH RECURSIVE n(i) AS (SELECT 1 UNION ALL SELECT i + 1 FROM n) SELECT max(i) FROM n'
+    """One statement that would run for a minute is ended within its second."""
+    endless = ('WITH RECURSIVE n(i) AS (SELECT 1 UNION ALL SELECT i + 1 FROM n LIMIT 90000000) '
+               'SELECT max(i) FROM n')
     monkeypatch.setattr(records_web.answers, 'standing', lambda database: database.execute(endless))
     begun = time.monotonic()
     answer = slow_client(made, question=0.3).get('/records/v1/status', headers=HEAD)
