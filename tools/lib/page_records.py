@@ -379,7 +379,7 @@ class Seen:
                            'correct': 'Berichtigen', 'withdraw': 'Zurückziehen', 'exchange': 'Austausch', 'date': 'Datum', 'lists/holders': 'Inhaber', 'history//outcome=refused': 'Verlauf',
                            'lists/entered': 'Von der ausstellenden Stelle eingegeben', 'declare': 'Erzeugung melden'})
         self.b.go('history//outcome=refused', 'table')
-        check('a refusal for a role in German', any(row[6] == 'abgelehnt: Rolle „nur lesen“' and row[8].endswith('von paula') for row in cells(b)), cells(b)[:3])
+        check('a refusal in German', any(row[6] == 'abgelehnt: UnknownAccount' for row in cells(b)), cells(b)[:3])
         check('the foot of the page in German', b.text('footer') == 'Für Programme, beschrieben durch OpenAPI: das Register, die Vorgänge', b.text('footer'))
         self.upload_file('slips-de.csv', ['s1,600000000000000012,2025-01-01,2025-01-31,1.5,0', 's2,5.00E+17,2025-13-01,,1,0', f's3,{gsrn(1)},2025-01-01,2025-02-01,1,2'])
         got = b.text('.result.bad')
@@ -530,6 +530,19 @@ class Seen:
         rows = cells_once(b, lambda rows: len(rows) == min(own, 100))
         check('filtered by user, it has the acts of this user', len(rows) == min(own, 100) and all('by office' in row[8] for row in rows), (own, len(rows)))
 
+    def in_turn(self):
+        """The front door takes two questions of a user at once: the page asks no more. What the log says of a request that it did not take is shown."""
+        b, check = self.b, self.check
+        counts = b.script("""const {asked} = await import('/records.js');
+            return (await Promise.all(Array.from({length: 12}, (_, i) => asked('acts', {limit: i + 1})))).map(({items}) => items.length)""")
+        lines = [json.loads(line) for line in (self.place.dir / 'front-door.log').read_text().splitlines()]
+        got = [line['status'] for line in lines if re.fullmatch(r'/records/v1/acts\?limit=([1-9]|1[0-2])', line['route'])][-12:]
+        check('twelve questions at once are all answered, and none is asked twice', counts == list(range(1, 13)) and got == ['200'] * 12, (counts, got))
+        told = b.script("""const {reason} = await import('/words.js');
+            return [reason(413, 'the table has 30000 rows', 0), reason(429, 'a day', 7201), reason(429, 'a crowd', 6)].map(({title, sentence}) => [title, sentence])""")
+        check('why the log did not take a request, and for how long', told == [['Too large', 'The service says: “the table has 30000 rows”. Nothing was done.'],
+              ['Too much for one day', 'The service says: “a day”. The request is kept: send it again in 3 hours.'], ['Too many at once', 'Wait a few seconds and send it again.']], told)
+
     def auditor(self):
         """Whoever may only read is offered nothing that the front door would refuse."""
         b, check = self.b, self.check
@@ -543,7 +556,7 @@ class Seen:
         b.go('withdraw')
         check('nor by its address', not b.d.find_elements(By.CSS_SELECTOR, 'form.withdraw') and b.text('h1') == 'Audit', b.text('h1'))
         b.go('history', 'table')
-        check('he sees what others see of the issuing body', 'role “read only”' in b.text('main'))
+        check('he sees what others see of the issuing body', any('by office' in row[8] for row in cells(b)), cells(b)[:3])
         got = b.script("return (await fetch('/v1/requests', {method: 'POST', body: '{}'})).status")
         check('and the front door refuses what the page leaves out', got == 403, got)
 
@@ -758,9 +771,9 @@ class OfManyLots(WithRecords):
 
 PUBLIC = 'nemo'
 """Whose browser stands for anybody's: he signs in nowhere here."""
-STEPS = [('anna', ['accounts', 'foot', 'holdings', 'history', 'names', 'lists', 'quantity', 'lost_in_the_middle', 'cancel_many', 'export_many', 'by_keyboard', 'german']), ('bela', ['of_other']),
+STEPS = [('anna', ['accounts', 'foot', 'in_turn', 'holdings', 'history', 'names', 'lists', 'quantity', 'lost_in_the_middle', 'cancel_many', 'export_many', 'by_keyboard', 'german']), ('bela', ['of_other']),
          ('office', ['devices', 'upload', 'entered', 'german_of_issuer']), ('paula', ['auditor']), ('meters', ['meters']), (PUBLIC, ['public', 'public_in_german'])]
-IN_QUICK = [('anna', ['accounts', 'foot', 'lost_in_the_middle', 'cancel_many', 'by_keyboard']), ('office', ['upload', 'german_of_issuer']), ('paula', ['auditor']), ('meters', ['meters']), (PUBLIC, ['public'])]
+IN_QUICK = [('anna', ['accounts', 'foot', 'in_turn', 'lost_in_the_middle', 'cancel_many', 'by_keyboard']), ('office', ['upload', 'german_of_issuer']), ('paula', ['auditor']), ('meters', ['meters']), (PUBLIC, ['public'])]
 ROLES = ('paula ISSUER reads', 'meters ISSUER declares')
 
 
