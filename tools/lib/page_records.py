@@ -553,6 +553,19 @@ class Seen:
         facts = dict(zip(got[::2], got[1::2]))
         check('and so is the act by itself', (facts['Outcome'], facts['Role'], facts['User'], facts['Caller'], facts['Key']) == ('refused: role “read only”', 'read only', 'paula', 'ISSUER', 'tried'), facts)
 
+    def in_turn(self):
+        """The front door takes two questions of a user at once: the page asks no more. What the log says of a request that it did not take is shown."""
+        b, check = self.b, self.check
+        counts = b.script("""const {asked} = await import('/records.js');
+            return (await Promise.all(Array.from({length: 12}, (_, i) => asked('acts', {limit: i + 1})))).map(({items}) => items.length)""")
+        lines = [json.loads(line) for line in (self.place.dir / 'front-door.log').read_text().splitlines()]
+        got = [line['status'] for line in lines if re.fullmatch(r'/records/v1/acts\?limit=([1-9]|1[0-2])', line['route'])][-12:]
+        check('twelve questions at once are all answered, and none is asked twice', counts == list(range(1, 13)) and got == ['200'] * 12, (counts, got))
+        told = b.script("""const {reason} = await import('/words.js');
+            return [reason(413, 'the table has 30000 rows', 0), reason(429, 'a day', 7201), reason(429, 'a crowd', 6)].map(({title, sentence}) => [title, sentence])""")
+        check('why the log did not take a request, and for how long', told == [['Too large', 'The service says: “the table has 30000 rows”. Nothing was done.'],
+              ['Too much for one day', 'The service says: “a day”. The request is kept: send it again in 3 hours.'], ['Too many at once', 'Wait a few seconds and send it again.']], told)
+
     def auditor(self):
         """Whoever may only read is offered nothing that the front door would refuse."""
         b, check = self.b, self.check
@@ -782,9 +795,9 @@ class OfManyLots(WithRecords):
 
 PUBLIC = 'nemo'
 """Whose browser stands for anybody's: he signs in nowhere here."""
-STEPS = [('anna', ['accounts', 'foot', 'holdings', 'history', 'names', 'lists', 'quantity', 'lost_in_the_middle', 'cancel_many', 'export_many', 'by_keyboard', 'german']), ('bela', ['of_other']),
+STEPS = [('anna', ['accounts', 'foot', 'in_turn', 'holdings', 'history', 'names', 'lists', 'quantity', 'lost_in_the_middle', 'cancel_many', 'export_many', 'by_keyboard', 'german']), ('bela', ['of_other']),
          ('office', ['beyond_role', 'devices', 'upload', 'entered', 'german_of_issuer']), ('paula', ['auditor']), ('meters', ['meters']), (PUBLIC, ['public', 'public_in_german'])]
-IN_QUICK = [('anna', ['accounts', 'foot', 'lost_in_the_middle', 'cancel_many', 'by_keyboard']), ('office', ['beyond_role', 'upload', 'german_of_issuer']), ('paula', ['auditor']), ('meters', ['meters']), (PUBLIC, ['public'])]
+IN_QUICK = [('anna', ['accounts', 'foot', 'in_turn', 'lost_in_the_middle', 'cancel_many', 'by_keyboard']), ('office', ['beyond_role', 'upload', 'german_of_issuer']), ('paula', ['auditor']), ('meters', ['meters']), (PUBLIC, ['public'])]
 ROLES = ('paula ISSUER reads', 'meters ISSUER declares')
 
 
