@@ -1,4 +1,4 @@
-"""Copies of deploy/ with one fault in them, to see that a test refuses it."""
+"""Copies of deploy/ with a fault in them, to see that a test refuses it."""
 import shutil
 from pathlib import Path
 
@@ -9,13 +9,20 @@ class NotPlanted(Exception):
     """A fault that can't be planted any more: the file has another text by now."""
 
 
-def deploy_with(folder: Path, file: str, *, right: str = '', wrong: str = '',
-                behind: str = '') -> Path:
-    """A copy of deploy/ in which one text of a file is another one, or more stands behind all."""
-    planted = folder / 'deploy'
-    shutil.copytree(DEPLOY, planted)
-    text = (planted / file).read_text()
-    if right and text.count(right) != 1:
+def copied(folder: Path) -> Path:
+    """A copy of deploy/ in a folder."""
+    return Path(shutil.copytree(DEPLOY, folder / 'deploy'))
+
+
+def plant(deploy: Path, file: str, right: str, wrong: str) -> None:
+    """One text of a file, which stands in it once, becomes another one."""
+    text = (deploy / file).read_text()
+    if text.count(right) != 1:
         raise NotPlanted(f'{file} has the text to replace {text.count(right)} times: {right!r}')
-    (planted / file).write_text((text.replace(right, wrong) if right else text) + behind)
-    return planted
+    (deploy / file).write_text(text.replace(right, wrong))
+
+
+def append(deploy: Path, file: str, text: str) -> None:
+    """More stands at the end of a file."""
+    with open(deploy / file, 'a') as opened:
+        opened.write(text)

@@ -10,6 +10,7 @@ import re
 import shutil
 import signal
 import subprocess
+import time
 from collections.abc import Callable
 from concurrent.futures import ThreadPoolExecutor
 from dataclasses import dataclass
@@ -30,7 +31,10 @@ from house import House
 from house import ISSUER
 from house import read_answer
 from parts import NotStarted
-from plants import deploy_with
+from parts import Part
+from plants import append
+from plants import copied
+from plants import plant
 
 SLOW = 0.012
 """Seconds that each sync of the log takes longer: a disk on which much lies between two steps."""
@@ -110,19 +114,20 @@ def table(country: Country, at: int) -> Request:
     return ISSUER, '/v1/declarations', text.encode()
 
 
-def request_of(country: Country, at: int, chance: random.Random) -> Request:
-    """One that is accepted, one that is refused, or one that is refused until another came."""
+def request_of(country: Country, at: int, chance: random.Random, is_alone: bool) -> Request:
+    """One that is accepted; of several clients also one that is refused, for now or for good."""
     number = f'{country.first + at % 100:014}'
-    kinds: list[Callable[[], Request]] = [
+    accepted: list[Callable[[], Request]] = [
         lambda: command(ISSUER, 'open_holder', f'h{at}', holder=f'H{at}', name='A holder'),
         lambda: command(ISSUER, 'open_account', f'a{at}', holder='SUN'),
+        lambda: command('SUN', 'transfer', f'g{at}', giver=country.sun, taker=country.volt,
+                        first=number, last=number)]
+    others: list[Callable[[], Request]] = [
         lambda: command(ISSUER, 'open_account', f'a{at}', holder=f'H{at - 2}'),
         lambda: command(ISSUER, 'open_account', f'a{at}', holder=f'H{at + 2}'),
-        lambda: command('SUN', 'transfer', f'g{at}', giver=country.sun, taker=country.volt,
-                        first=number, last=number),
         lambda: table(country, at),
         lambda: (ISSUER, '/v1/requests', b'{"no request')]
-    return chance.choice(kinds)()
+    return chance.choice(accepted if is_alone else accepted + others)()
 
 
 def ask(house: House, request: Request) -> Asked:
@@ -130,22 +135,32 @@ def ask(house: House, request: Request) -> Asked:
     return Asked(caller, route, body, house.ask_log(caller, 'POST', route, body))
 
 
+def hold(parts: list[Part]) -> None:
+    """Stops processes; a call that is under way ends meanwhile, and none begins."""
+    for part in parts:
+        part.send(signal.SIGSTOP)
+    time.sleep(0.2)
+
+
 def load(house: House, seed: int) -> Load:
     """Has requests asked of a house, and ends its log and its registry in the middle."""
     chance, country = random.Random(seed), house.make_country()
-    requests = [request_of(country, at, chance) for at in range((CLIENTS + 2) * REQUESTS)]
-    alone, rest = requests[:2 * REQUESTS], requests[2 * REQUESTS:]
+    alone = [request_of(country, at, chance, True) for at in range(2 * REQUESTS)]
+    rest = [request_of(country, 2 * REQUESTS + at, chance, False)
+            for at in range(CLIENTS * REQUESTS)]
+    parts = [house.parts['log'], house.parts['registry']]
+    hold(parts)
     seen = Load(house, Disk([house.state, house.db.parent]))
     log, registry = house.folder / 'log.trace', house.folder / 'registry.trace'
-    parts = house.parts
-    with (watch(parts['log'].processes(), log, slow=SLOW),
-          watch(parts['registry'].processes(), registry), ThreadPoolExecutor(CLIENTS) as pool):
+    with (watch(parts[0].processes(), log, slow=SLOW), watch(parts[1].processes(), registry),
+          ThreadPoolExecutor(CLIENTS) as pool):
+        for part in parts:
+            part.send(signal.SIGCONT)
         seen.asked += [ask(house, request) for request in alone]
         seen.asked += pool.map(lambda request: ask(house, request), rest)
-        for part in ('log', 'registry'):
-            parts[part].send(signal.SIGKILL)
-        for part in ('log', 'registry'):
-            house.kill(part)
+        hold(parts)
+        for part in parts:
+            part.end(signal.SIGKILL)
     seen.calls = sorted([*read_trace(log), *read_trace(registry)], key=lambda call: call.ended)
     return seen
 
@@ -226,9 +241,10 @@ def compare(house: House, told: dict[int, Asked], fresh: Fresh) -> None:
         outcome = record.outcome.status, as_at_first(record.outcome.body)
         if outcome != (asked.answer.status, as_at_first(asked.answer.body)):
             raise Lost(f'entry {n} was acknowledged as {asked.answer}, and is {record.outcome}')
-        again = at_registry(house.registry_port, asked.caller, asked.route, asked.body)
-        if asked.answer.status == 200 and as_at_first(again.body) != outcome[1]:
-            raise Lost(f'entry {n} was accepted and is not in the registry: {again}')
+        if asked.answer.status == 200:
+            again = at_registry(house.registry_port, asked.caller, asked.route, asked.body)
+            if as_at_first(again.body) != outcome[1]:
+                raise Lost(f'entry {n} was accepted and is not in the registry: {again}')
     log = [archive[n].entry for n in sorted(archive)]
     now = rows(house, house.db.parent, house.folder / 'copy')
     then = fresh.rows_after(log)
@@ -246,8 +262,10 @@ def moments(seen: Load, chance: random.Random) -> list[tuple[int, random.Random 
     some = list(range(len(seen.calls)))
     syncs, answers = seen.syncs_of_log() or some, seen.answers()
     assert answers, 'strace saw no answer'
-    picked = [(chance.choice(kind), part) for kind in (syncs, answers) for part in (None, chance)]
-    return sorted([*picked, (chance.choice(some), chance), (len(seen.calls), None)],
+    spread = [syncs[len(syncs) * part // 5] for part in range(1, 5)]
+    without = [*spread, chance.choice(answers), len(seen.calls)]
+    by_chance = [chance.choice(kind) for kind in (syncs, answers, some)]
+    return sorted([*((at, None) for at in without), *((at, chance) for at in by_chance)],
                   key=lambda pair: pair[0])
 
 
@@ -274,35 +292,58 @@ def try_power(deploy: Path | None, seed: int) -> None:
 
 # -------------------------------------------------------------------- the trials
 
-def test_what_was_acknowledged_is_there() -> None:
-    try_power(None, seed=1)
-
-
 NEVER = """
 
 import os as _os
 _sync = _os.fdatasync
 _os.fdatasync = lambda file: ('/%s/' in _os.readlink(f'/proc/self/fd/{file}')) or _sync(file)
 """
-EARLY = """                request.entry = last.n
+ADDS = """            if self.store.add([texts[0][0]], end, last)[0]:
+                request.entry = last.n
                 self.give(texts)
-            else:
-                self.applier.send("late")"""
+"""
+GIVES_FIRST = """            self.give(texts)
+            if self.store.add([texts[0][0]], end, last)[0]:
+                request.entry = last.n
+"""
+
+
+@pytest.fixture
+def deploy(tmp_path: Path) -> Path:
+    return copied(tmp_path)
+
+
+def make_small(deploy: Path) -> None:
+    """Files of the log end after some entries, and go soon after all of them are archived."""
+    plant(deploy, 'replica_file.py', 'SIZE = 16 << 20', 'SIZE = 3 << 10')
+    plant(deploy, 'replica', 'await asyncio.sleep(60)\n            self.applier.send("sync")',
+          'await asyncio.sleep(0.1)\n            self.applier.send("sync")')
+
+
+def test_what_was_acknowledged_is_there() -> None:
+    try_power(None, seed=1)
+
+
+def test_what_was_acknowledged_is_there_beyond_a_file_of_the_log(deploy: Path) -> None:
+    make_small(deploy)
+    try_power(deploy, seed=4)
 
 
 @pytest.mark.parametrize('folder', ['log', 'archive'])
-def test_a_folder_that_is_never_synced_is_seen(folder: str, tmp_path: Path) -> None:
-    deploy = deploy_with(tmp_path, 'entries.py', behind=NEVER % folder)
+def test_a_folder_that_is_never_synced_is_seen(folder: str, deploy: Path) -> None:
+    append(deploy, 'entries.py', NEVER % folder)
     with pytest.raises(Lost):
         try_power(deploy, seed=2)
 
 
-def test_an_entry_applied_before_the_log_is_synced_is_seen(tmp_path: Path) -> None:
-    deploy = deploy_with(tmp_path, 'replica', right='            if self.store.add(',
-                         wrong='            self.give(texts)\n            if self.store.add(')
-    text = (deploy / 'replica').read_text()
-    assert text.count(EARLY) == 1
-    late = EARLY.replace('                self.give(texts)\n', '')
-    (deploy / 'replica').write_text(text.replace(EARLY, late))
+def test_an_entry_applied_before_the_log_is_synced_is_seen(deploy: Path) -> None:
+    plant(deploy, 'replica', ADDS, GIVES_FIRST)
     with pytest.raises(Lost):
         try_power(deploy, seed=3)
+
+
+def test_a_file_whose_name_is_never_synced_is_seen(deploy: Path) -> None:
+    make_small(deploy)
+    append(deploy, 'entries.py', '\n\ndef sync_folder(folder):\n    pass\n')
+    with pytest.raises(Lost):
+        try_power(deploy, seed=5)
