@@ -142,7 +142,7 @@ def stopped() -> Iterator[None]:
 
 def check_tables() -> None:
     """The program reads this file. Where its tables are of another version, only opening tells."""
-    done = as_user('goo', 'sh', '-ec', MADE, text=True, timeout=SECONDS)
+    done = as_user('goo', 'sh', '-ec', MADE, text=True, timeout=PATIENCE)
     if done.returncode or not done.stdout.strip().isdigit():
         raise Refused(f'{PROGRAM} does not run: {done.stderr.strip() or f"status {done.returncode}"}')
     try:

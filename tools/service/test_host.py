@@ -18,6 +18,9 @@ for place in (DEPLOY, TOP / 'tools/service'):
 
 import exchange_visit
 from exchange_outbox import Outbox
+from host_stage import FOLDERS
+from host_stage import USERS
+from host_stage import Canary
 from host_stage import Done
 from host_stage import Stage
 from host_stage import script_of
@@ -288,3 +291,117 @@ def test_a_host_of_three_waits_for_its_renewal(registry: Stage) -> None:
     done = configure(registry)
     assert done.status == 0 and 'goo-setup renew' in done.out, done
     assert registry.lines('/run/stage/openings') == []
+
+
+# ------------------------------------------------------------------ what root must not touch
+
+NAMES = {
+    '/var/lib/goo': 'registry.db registry.db-wal registry.db-journal registry.db-shm reserve restoring '
+                    'restoring-configuration before-2025',
+    '/var/lib/goo-exchange': 'state.json generation.json restored.json outbox inbox refused lock',
+    '/var/lib/goo-replica': 'place log archive aside shipped shipped.part place.part .ssh',
+    '/var/lib/goo-records': 'first first.part exchange.json exchange.json.part current .lock code.key',
+    '/var/lib/goo-etcd': 'data',
+}
+"""What stands in the folder of a service, or could."""
+PLANTS = {
+    'links to a file': 'ln -s /run/canary/file "$1"',
+    'links to a folder': 'ln -s /run/canary/folder "$1"',
+    'pipes': 'mkfifo "$1"',
+    'folders with links': 'mkdir "$1"; ln -s /run/canary/file "$1/2025-01.jsonl"; '
+                          'ln -s /run/canary/folder "$1/00000000000000000001.jsonl"; '
+                          'ln -s /run/canary/file "$1/place.json"; ln -s /run/canary/folder "$1/folder"',
+}
+ROOTS_FOLDERS = ('/run', '/run/goo', '/run/goo-front', '/var/lib', '/var/log/goo', '/var/backups/goo',
+                 '/etc/goo', '/etc/goo/peers', '/etc/goo/tls', '/usr/lib/goo', '/run/goo-units')
+COPY = '/var/backups/goo/2025-01-01T000000Z'
+WORK = {
+    'goo-setup doctor': 'goo-setup doctor',
+    'goo-setup status': 'goo-setup status',
+    'watch': '/usr/lib/goo/watch',
+    'what a host that joins is given': r'''python3 - <<'END'
+import sys; sys.path.insert(0, '/usr/lib/goo')
+import contextlib, pathlib, shutil, subprocess, setup_common, setup_hosts
+setup_common.SECONDS = setup_hosts.SECONDS = 1
+shutil.rmtree('/run/stage/root', ignore_errors=True)
+root = pathlib.Path('/run/stage/root'); root.mkdir()
+def attempt(work, *words):
+    with contextlib.suppress(setup_common.Refused, subprocess.TimeoutExpired): work(*words)
+attempt(setup_hosts.numbers)
+attempt(setup_common.code_of_registry)
+setup_common.holds_registry()
+for name, (folder, user) in setup_hosts.THEIR_FOLDERS.items():
+    attempt(setup_hosts.pack_folder, folder, user, root / name)
+    (root / 'x').write_text('x')
+    setup_common.run('tar', '--create', '--file', root / f'{name}.all', '--directory', root, name, 'x')
+    attempt(setup_hosts.unpack_folder, root / f'{name}.all', name, folder, user)
+END''',
+    'the copy for the book': rf'''python3 - <<'END'
+import sys; sys.path.insert(0, '/usr/lib/goo')
+import importlib.machinery, importlib.util, pathlib, setup_common
+loader = importlib.machinery.SourceFileLoader('goo_setup', '/usr/lib/goo/goo-setup')
+of = importlib.util.module_from_spec(importlib.util.spec_from_loader('goo_setup', loader))
+loader.exec_module(of)
+of.place_folders()
+try:
+    of.place_book(pathlib.Path('{COPY}'))
+except (setup_common.Refused, OSError) as fault:
+    print(fault)
+END''',
+}
+"""What root carries out by programs of this package, but for those that change what runs."""
+
+
+def privileged_lines() -> dict[str, str]:
+    """The lines of units that systemd carries out as root, outside of what shuts a unit in."""
+    found = {}
+    for path in (*DEPLOY.glob('systemd/*.service'), *DEPLOY.glob('drop-ins/*'), *DEPLOY.glob('etcd/*.service')):
+        for line in path.read_text(encoding='utf-8').splitlines():
+            name, _, words = line.partition('=')
+            if name.startswith('Exec') and '+' in words[:3]:
+                found[f'{path.name} {name}'] = words.lstrip('-+!@:')
+    return found
+
+
+@pytest.fixture
+def planted(stage: Stage) -> Iterator[Stage]:
+    """A host with a configuration and a copy, on which nothing runs."""
+    stage.shell('mkdir -p /etc/goo/tls /etc/goo/peers; echo "server_name a.example;" > /etc/goo/host.conf\n'
+                'openssl req -x509 -newkey ec -pkeyopt ec_paramgen_curve:P-256 -nodes -days 90 '
+                '-subj /CN=a.example -keyout /etc/goo/tls/key.pem -out /etc/goo/tls/cert.pem 2> /dev/null\n'
+                'chmod 600 /etc/goo/tls/key.pem; : > /etc/goo/callers; : > /etc/goo/users\n'
+                f'mkdir {COPY}; echo x > {COPY}/registry.db; echo "{{\\"n\\": 3}}" > {COPY}/place.json\n')
+    yield stage
+
+
+@pytest.mark.parametrize('kind', PLANTS)
+def test_root_follows_nothing_that_a_service_has_planted(planted: Stage, kind: str) -> None:
+    canary = Canary(planted)
+    for user_folder, names in NAMES.items():
+        user = FOLDERS[user_folder]
+        text = f'cd {user_folder}; for name in {names}; do set -- "$name"; {PLANTS[kind]}; done'
+        done = planted.run('setpriv', f'--reuid={user}', f'--regid={user}', '--clear-groups', 'sh', '-ec', text)
+        assert done.status == 0, done
+    assert canary.seen() == [], 'planting itself touches nothing'
+    for what, text in {**privileged_lines(), **WORK}.items():
+        done = planted.run('sh', '-c', text, seconds=100)
+        assert 'Traceback' not in done.err and 'SECRET' not in done.out + done.err, f'{what}: {done}'
+        assert canary.seen() == [], f'{what}: {done}'
+    secrets = planted.run('grep', '-rlD', 'skip', 'SECRET', '/var/lib', '/var/backups', '/etc/goo', '/run/goo')
+    assert secrets.out == '', 'a copy of it is somewhere'
+    canary.close()
+
+
+def test_each_user_writes_into_folders_of_its_own_alone(planted: Stage) -> None:
+    planted.shell('systemd-tmpfiles --create goo.conf')
+    for user in USERS:
+        text = f'for folder in {" ".join(ROOTS_FOLDERS)}; do [ ! -w "$folder" ] || echo "$folder"; done'
+        done = planted.run('setpriv', f'--reuid={user}', f'--regid={user}', '--init-groups', 'sh', '-c', text)
+        assert done.out == '', f'{user}: {done.out}'
+
+
+def test_the_records_are_handed_what_the_exchange_told(planted: Stage) -> None:
+    planted.shell('echo {} > /var/lib/goo-exchange/state.json; /usr/lib/goo/hand-over')
+    copied = '/var/lib/goo-records/exchange.json'
+    assert planted.run('stat', '-c', '%U %a', copied).out == 'goo-records 440\n'
+    assert planted.text(copied) == '{}\n'
