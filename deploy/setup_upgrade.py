@@ -21,7 +21,6 @@ from setup_common import LED
 from setup_common import LOG
 from setup_common import NEWER
 from setup_common import REPLICA
-from setup_common import SECONDS
 from setup_common import SYSTEMD
 from setup_common import Refused
 from setup_common import as_user
