@@ -11,7 +11,7 @@ ETC, SHARE, NGINX, SYSTEMD = map(pathlib.Path, ('/etc/goo', '/usr/share/goo/etc'
 REGISTRY, LOG, BOOK, EXCHANGE, COPIES = map(pathlib.Path, ('/var/lib/goo', '/var/lib/goo-replica', '/var/lib/goo-records', '/var/lib/goo-exchange', '/var/backups/goo'))
 DATABASE, FIRST = REGISTRY / 'registry.db', BOOK / 'first'
 PATH = '/usr/local/sbin:/usr/local/bin:/usr/sbin:/usr/bin:/sbin:/bin'
-LARGEST, SECONDS = 1 << 26, 20
+LARGEST, SECONDS = 1 << 26, 10
 """Bytes that are read of a file of a service, and how long its user may take for it."""
 CLOSED = SYSTEMD / 'goo-door.socket.d/closed.conf'
 REPLICA = '/usr/lib/goo/replica-log'
@@ -50,10 +50,14 @@ def as_user(user, *words, group=None, **options):
     return subprocess.run([str(word) for word in reduced], **given)
 
 
-def read_as(user, path, group=None):
-    """The text of a file below a folder of a user; an empty one where it cannot be read at once. A pipe is waited for no longer than some seconds."""
+IS_FILE = '[ -f "$1" ] && [ ! -L "$1" ]'
+"""A link is not followed, and a pipe is not waited for."""
+
+
+def read_as(user, path):
+    """The text of a file below a folder of a user; an empty one where there is no such file."""
     try:
-        done = as_user(user, 'head', f'--bytes={LARGEST}', '--', path, group=group, timeout=SECONDS)
+        done = as_user(user, 'sh', '-c', f'{IS_FILE} && exec head --bytes={LARGEST} -- "$1"', 'sh', path, timeout=SECONDS)
     except subprocess.TimeoutExpired:
         return ''
     return done.stdout.decode('utf-8', 'replace') if done.returncode == 0 else ''
@@ -136,14 +140,14 @@ def password_of(given, name):
 
 def meta_of(database, column, user='goo'):
     """A number that a database keeps of itself, read as the user who owns it. A log beside the file is not read."""
-    words = ['sqlite3', '-init', '/dev/null', '-batch', f'file:{database}?mode=ro&immutable=1', f'SELECT {column} FROM meta']
+    asked = f'{IS_FILE} && exec sqlite3 -init /dev/null -batch "file:$1?mode=ro&immutable=1" "SELECT {column} FROM meta"'
     try:
-        done = as_user(user, *words, timeout=SECONDS)
+        done = as_user(user, 'sh', '-c', asked, 'sh', database, timeout=SECONDS)
     except subprocess.TimeoutExpired as fault:
         raise Refused(f'{database}: it cannot be read within {SECONDS} s') from fault
     said = done.stdout.decode(errors='replace').strip()
     if not re.fullmatch('[0-9]{1,9}', said):
-        raise Refused(f'{database}: {done.stderr.decode(errors="replace").strip() or "it tells no " + column}')
+        raise Refused(f'{database}: {done.stderr.decode(errors="replace").strip() or "no file that tells its " + column}')
     return int(said)
 
 

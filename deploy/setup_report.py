@@ -11,7 +11,8 @@ import subprocess
 import tempfile
 import time
 
-from setup_common import CLOSED, COPIES, DATABASE, ETC, EXCHANGE, LARGEST, LOG, ON_ONE, REGISTRY, Refused, is_active, leads, read_as, says, units, word_of, words_of_log
+from setup_common import (CLOSED, COPIES, DATABASE, ETC, EXCHANGE, LARGEST, LOG, ON_ONE, REGISTRY, Refused, code_of_registry, is_active, leads, meta_of, read_as, says, units, word_of,
+                          words_of_log)
 
 DOOR, DESK = '/run/goo/door.sock', '/run/goo-records/web.sock'
 TOLD = pathlib.Path('/run/goo-alarm')
@@ -19,6 +20,9 @@ GOODS = pathlib.Path('/root/goo-hosts')
 """What the first of three hosts made for the others: it holds keys."""
 EXPIRES_SOON, COPY_OLD, SILENT = 30, 2, datetime.timedelta(hours=1)
 """Days, days, and how long the exchange may be silent."""
+BEHIND = 1000
+"""Entries that the book may be behind the log."""
+BEGINNING = f'{ETC}/records.conf has to name the copy that was made when the log was begun: RECORDS.md, "Running it"'
 ROOM = 1 << 30
 PATIENCE = 180
 """Seconds for the registry to take requests, on a host that is busy."""
@@ -174,10 +178,45 @@ def registry_ailments():
     today = datetime.date.today().isoformat()
     if not stands:
         yield 'the book of acts does not answer', 'journalctl -u goo-records -u goo-records-web -n 20'
-    elif stands['today'] != today:
-        yield f"the registry's date is {stands['today']}, today is {today}", ('journalctl -u goo-advance' if leads() else f'where the first host is lost: systemctl enable --now {ON_ONE}') + '; OPERATING.md, "The date"'
-    if entry is not None and stands and stands['entry'] + 1000 < entry:
-        yield f'the book of acts stands at entry {stands["entry"]}, the log at {entry}', 'journalctl -u goo-records -n 20'
+    elif stands.get('today') != today:
+        yield f"the registry's date is {stands.get('today')}, today is {today}", ('journalctl -u goo-advance' if leads() else f'where the first host is lost: systemctl enable --now {ON_ONE}') + '; OPERATING.md, "The date"'
+    if entry is not None and isinstance(stands.get('entry'), int):
+        yield from book_ailments(entry, stands['entry'])
+
+
+def book_ailments(entry, stands):
+    """Whether the book of acts goes on from the beginning of the log, by the entry of the log and the one of the book."""
+    if stands + BEHIND < entry:
+        yield f'the book of acts stands at entry {stands}, the log at {entry}', 'journalctl -u goo-records -n 20'
+    elif stands > entry:
+        yield f'the book of acts stands at entry {stands}, and the log ends at entry {entry}: the book is of another log', f'journalctl -u goo-records -n 20; {BEGINNING}'
+    elif stands == entry and (last := last_account()) and not has_account(last):
+        yield f'the book of acts has not account {last}, which the registry has: the log was begun over a registry with records, and the book without them', BEGINNING
+    begun = begun_with()
+    if begun and begun != code_of_registry():
+        yield f'{ETC}/records.conf begins the book of acts with registry {begun}, and this is registry {code_of_registry()}', BEGINNING
+
+
+def last_account():
+    """The last account that the registry's file has, without the log beside it: the registry may have more. 0 where it tells none."""
+    try:
+        return meta_of(DATABASE, 'next_account') - 1
+    except Refused:
+        return 0
+
+
+def has_account(number):
+    """Whether the book of acts has an account; so, where it does not tell."""
+    answer = ask(DESK, f'/records/v1/accounts?account={number}&limit=1')
+    items = told(answer[1]).get('items') if answer and answer[0] == 200 else None
+    return items != []
+
+
+def begun_with():
+    """The code of the registry with which the book begins, where it begins with an empty one."""
+    path = ETC / 'records.conf'
+    found = re.search(r'(?m)^GOO_RECORDS_BEGIN=--begun (\d+) ', path.read_text(encoding='utf-8')) if path.exists() else None
+    return int(found[1]) if found else None
 
 
 def member_ailments():
@@ -205,13 +244,26 @@ def shown(text):
     return ''.join(one if one.isprintable() else '?' for one in text)
 
 
+def is_long_ago(written):
+    """Whether the exchange was silent for too long since then; so, where that is no time."""
+    try:
+        return datetime.datetime.now(datetime.timezone.utc) - datetime.datetime.fromisoformat(written) > SILENT
+    except (TypeError, ValueError):
+        return True
+
+
 def in_words(trouble):
     return '; '.join(map(str, trouble)) if isinstance(trouble, list) else str(trouble)
 
 
-def exchange_ailments():
-    conf = configparser.ConfigParser()
+def peers_conf():
+    conf = configparser.ConfigParser(interpolation=None)
     conf.read(ETC / 'exchange.conf', encoding='utf-8')
+    return conf
+
+
+def exchange_ailments():
+    conf = peers_conf()
     peers = [section for section in conf.sections() if section.startswith('peer ')]
     if peers and leads() and not is_active('goo-exchange.timer'):
         yield f'{len(peers)} peers in {ETC}/exchange.conf, and goo-exchange.timer is not running', 'systemctl enable --now goo-exchange.timer'
@@ -220,24 +272,41 @@ def exchange_ailments():
         if found.get('trouble'):
             yield f'{name}: {in_words(found["trouble"])}', 'journalctl -u goo-exchange -n 20; OPERATING.md, "Exchange with other registries"'
     written = state.get('written')
-    if peers and written and datetime.datetime.now(datetime.timezone.utc) - datetime.datetime.fromisoformat(written) > SILENT:
+    if peers and written and is_long_ago(written):
         yield f'the exchange ran last at {written}', 'systemctl status goo-exchange.timer; journalctl -u goo-exchange -n 20'
 
 
-def days_left(certificate):
-    """For how many days a certificate holds; None where it cannot be read."""
-    end = says('openssl', 'x509', '-in', certificate, '-noout', '-enddate').removeprefix('notAfter=')
-    return (datetime.datetime.strptime(end, '%b %d %H:%M:%S %Y %Z') - datetime.datetime.utcnow()).days if end else None
+def days_left(path):
+    """For how many days the certificates of a file hold, by the first one that ends; None where one cannot be read."""
+    try:
+        blocks = re.findall('-----BEGIN CERTIFICATE-----.*?-----END CERTIFICATE-----', path.read_text(encoding='ascii', errors='replace'), re.DOTALL)
+    except OSError:
+        return None
+    ends = [subprocess.run(['openssl', 'x509', '-noout', '-enddate'], input=block, capture_output=True, text=True, check=False).stdout.strip().removeprefix('notAfter=') for block in blocks]
+    now = datetime.datetime.now(datetime.timezone.utc).replace(tzinfo=None)
+    return min((datetime.datetime.strptime(end, '%b %d %H:%M:%S %Y %Z') - now).days for end in ends) if ends and all(ends) else None
+
+
+def certificates():
+    """The files of certificates that this host needs, each with what to do before it ends."""
+    yield ETC / 'tls/cert.pem', f'put a new one into {ETC}/tls; nginx -t && systemctl reload nginx'
+    for name in ('ca', 'member', 'replica') if words_of_log() else ():
+        yield ETC / f'etcd/{name}.pem', 'etcd takes no requests, and nothing is written, once it has ended: OPERATING.md, "Three hosts", Certificates'
+    conf = peers_conf()
+    for section in conf.sections():
+        for option in ('authority', 'certificate'):
+            if section.startswith('peer ') and conf.has_option(section, option):
+                yield pathlib.Path(conf.get(section, option)), f'a new one, by the operator of registry {section.removeprefix("peer ")}'
 
 
 def certificate_ailments():
-    chain, etcd = ETC / 'tls/cert.pem', [ETC / f'etcd/{name}.pem' for name in ('ca', 'member', 'replica')]
-    for path, remedy in ((chain, f'put a new one into {ETC}/tls; nginx -t && systemctl reload nginx'), *((path, 'OPERATING.md, "Three hosts"') for path in etcd if words_of_log())):
+    chain = ETC / 'tls/cert.pem'
+    for path, remedy in certificates():
         left = days_left(path)
         if left is None:
             yield f'{path} cannot be read', 'OPERATING.md, "TLS"' if path == chain else remedy
-        elif left < EXPIRES_SOON:
-            yield f'the certificate {path} ends in {left} days', remedy
+        elif left <= EXPIRES_SOON:
+            yield f'the certificate {path} {f"ends in {left} days" if left >= 0 else "has ended"}', remedy
     name = re.search(r'server_name (\S+);', (ETC / 'host.conf').read_text(encoding='utf-8'))
     if name and 'does NOT match' in says('openssl', 'x509', '-in', chain, '-noout', '-checkhost', name[1]):
         yield f'{chain} is not for {name[1]}', f'{ETC}/host.conf has the name that it has to be for'

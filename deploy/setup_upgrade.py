@@ -21,7 +21,6 @@ from setup_common import LED
 from setup_common import LOG
 from setup_common import NEWER
 from setup_common import REPLICA
-from setup_common import SECONDS
 from setup_common import SYSTEMD
 from setup_common import Refused
 from setup_common import as_user
@@ -142,7 +141,7 @@ def stopped() -> Iterator[None]:
 
 def check_tables() -> None:
     """The program reads this file. Where its tables are of another version, only opening tells."""
-    done = as_user('goo', 'sh', '-ec', MADE, text=True, timeout=SECONDS)
+    done = as_user('goo', 'sh', '-ec', MADE, text=True, timeout=PATIENCE)
     if done.returncode or not done.stdout.strip().isdigit():
         raise Refused(f'{PROGRAM} does not run: {done.stderr.strip() or f"status {done.returncode}"}')
     try:

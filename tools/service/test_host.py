@@ -1,4 +1,5 @@
 """The host around the registry: units, set-up, upgrade, exchange, certificates, and what root touches."""
+import functools
 import itertools
 import json
 import signal
@@ -6,22 +7,28 @@ import subprocess
 import sys
 import time
 from collections.abc import Iterator
+from importlib.machinery import SourceFileLoader
+from importlib.util import module_from_spec
+from importlib.util import spec_from_loader
 from pathlib import Path
+from types import ModuleType
 from types import SimpleNamespace
 
 import pytest
 
-TOP = Path(__file__).resolve().parents[2]
-DEPLOY = TOP / 'deploy'
-for place in (DEPLOY, TOP / 'tools/service'):
-    sys.path.insert(0, str(place))
-
 import exchange_visit
+import setup_common
+import setup_report
 from exchange_outbox import Outbox
+from host_stage import FOLDERS
+from host_stage import USERS
+from host_stage import Canary
 from host_stage import Done
 from host_stage import Stage
 from host_stage import script_of
 
+TOP = Path(__file__).resolve().parents[2]
+DEPLOY = TOP / 'deploy'
 DEVICE = '500000000000000029'
 OCTOBER = {'first_day': '2024-10-01', 'last_day': '2024-10-31'}
 
@@ -288,3 +295,282 @@ def test_a_host_of_three_waits_for_its_renewal(registry: Stage) -> None:
     done = configure(registry)
     assert done.status == 0 and 'goo-setup renew' in done.out, done
     assert registry.lines('/run/stage/openings') == []
+
+
+# ------------------------------------------------------------------ what root must not touch
+
+NAMES = {
+    '/var/lib/goo': 'registry.db registry.db-wal registry.db-journal registry.db-shm reserve restoring '
+                    'restoring-configuration before-2025',
+    '/var/lib/goo-exchange': 'state.json generation.json restored.json outbox inbox refused lock',
+    '/var/lib/goo-replica': 'place log archive aside shipped shipped.part place.part .ssh',
+    '/var/lib/goo-records': 'first first.part exchange.json exchange.json.part current .lock code.key',
+    '/var/lib/goo-etcd': 'data',
+}
+"""What stands in the folder of a service, or could."""
+PLANTS = {
+    'links to a file': 'ln -s /run/canary/file "$1"',
+    'links to a folder': 'ln -s /run/canary/folder "$1"',
+    'pipes': 'mkfifo "$1"',
+    'folders with links': 'mkdir "$1"; ln -s /run/canary/file "$1/2025-01.jsonl"; '
+                          'ln -s /run/canary/folder "$1/00000000000000000001.jsonl"; '
+                          'ln -s /run/canary/file "$1/place.json"; ln -s /run/canary/folder "$1/folder"',
+}
+ROOTS_FOLDERS = ('/run', '/run/goo', '/run/goo-front', '/var/lib', '/var/log/goo', '/var/backups/goo',
+                 '/etc/goo', '/etc/goo/peers', '/etc/goo/tls', '/usr/lib/goo', '/run/goo-units')
+COPY = '/var/backups/goo/2025-01-01T000000Z'
+WORK = {
+    'goo-setup doctor': 'goo-setup doctor',
+    'goo-setup status': 'goo-setup status',
+    'watch': '/usr/lib/goo/watch',
+    'what a host that joins is given': r'''python3 - <<'END'
+import sys; sys.path.insert(0, '/usr/lib/goo')
+import contextlib, pathlib, shutil, subprocess, setup_common, setup_hosts
+setup_common.SECONDS = setup_hosts.SECONDS = 1
+shutil.rmtree('/run/stage/root', ignore_errors=True)
+root = pathlib.Path('/run/stage/root'); root.mkdir()
+def attempt(work, *words):
+    with contextlib.suppress(setup_common.Refused, subprocess.TimeoutExpired): work(*words)
+attempt(setup_hosts.numbers)
+attempt(setup_common.code_of_registry)
+setup_common.holds_registry()
+for name, (folder, user) in setup_hosts.THEIR_FOLDERS.items():
+    attempt(setup_hosts.pack_folder, folder, user, root / name)
+    (root / 'x').write_text('x')
+    setup_common.run('tar', '--create', '--file', root / f'{name}.all', '--directory', root, name, 'x')
+    attempt(setup_hosts.unpack_folder, root / f'{name}.all', name, folder, user)
+END''',
+    'the copy for the book': rf'''python3 - <<'END'
+import sys; sys.path.insert(0, '/usr/lib/goo')
+import importlib.machinery, importlib.util, pathlib, setup_common
+loader = importlib.machinery.SourceFileLoader('goo_setup', '/usr/lib/goo/goo-setup')
+of = importlib.util.module_from_spec(importlib.util.spec_from_loader('goo_setup', loader))
+loader.exec_module(of)
+of.place_folders()
+try:
+    of.place_book(pathlib.Path('{COPY}'))
+except (setup_common.Refused, OSError) as fault:
+    print(fault)
+END''',
+}
+"""What root carries out by programs of this package, but for those that change what runs."""
+
+
+def privileged_lines() -> dict[str, str]:
+    """The lines of units that systemd carries out as root, outside of what shuts a unit in."""
+    found = {}
+    for path in (*DEPLOY.glob('systemd/*.service'), *DEPLOY.glob('drop-ins/*'), *DEPLOY.glob('etcd/*.service')):
+        for line in path.read_text(encoding='utf-8').splitlines():
+            name, _, words = line.partition('=')
+            if name.startswith('Exec') and '+' in words[:3]:
+                found[f'{path.name} {name}'] = words.lstrip('-+!@:')
+    return found
+
+
+@pytest.fixture
+def planted(stage: Stage) -> Iterator[Stage]:
+    """A host with a configuration and a copy, on which nothing runs."""
+    stage.shell('mkdir -p /etc/goo/tls /etc/goo/peers; echo "server_name a.example;" > /etc/goo/host.conf\n'
+                'openssl req -x509 -newkey ec -pkeyopt ec_paramgen_curve:P-256 -nodes -days 90 '
+                '-subj /CN=a.example -keyout /etc/goo/tls/key.pem -out /etc/goo/tls/cert.pem 2> /dev/null\n'
+                'chmod 600 /etc/goo/tls/key.pem; : > /etc/goo/callers; : > /etc/goo/users\n'
+                f'mkdir {COPY}; echo x > {COPY}/registry.db; echo "{{\\"n\\": 3}}" > {COPY}/place.json\n')
+    yield stage
+
+
+@pytest.mark.parametrize('kind', PLANTS)
+def test_root_follows_nothing_that_a_service_has_planted(planted: Stage, kind: str) -> None:
+    canary = Canary(planted)
+    for user_folder, names in NAMES.items():
+        user = FOLDERS[user_folder]
+        text = f'cd {user_folder}; for name in {names}; do set -- "$name"; {PLANTS[kind]}; done'
+        done = planted.run('setpriv', f'--reuid={user}', f'--regid={user}', '--clear-groups', 'sh', '-ec', text)
+        assert done.status == 0, done
+    assert canary.seen() == [], 'planting itself touches nothing'
+    for what, text in {**privileged_lines(), **WORK}.items():
+        done = planted.run('sh', '-c', text, seconds=100)
+        assert 'Traceback' not in done.err and 'SECRET' not in done.out + done.err, f'{what}: {done}'
+        assert canary.seen() == [], f'{what}: {done}'
+    secrets = planted.run('grep', '-rlD', 'skip', 'SECRET', '/var/lib', '/var/backups', '/etc/goo', '/run/goo')
+    assert secrets.out == '', 'a copy of it is somewhere'
+    canary.close()
+
+
+def test_each_user_writes_into_folders_of_its_own_alone(planted: Stage) -> None:
+    planted.shell('systemd-tmpfiles --create goo.conf')
+    for user in USERS:
+        text = f'for folder in {" ".join(ROOTS_FOLDERS)}; do [ ! -w "$folder" ] || echo "$folder"; done'
+        done = planted.run('setpriv', f'--reuid={user}', f'--regid={user}', '--init-groups', 'sh', '-c', text)
+        assert done.out == '', f'{user}: {done.out}'
+
+
+def test_the_records_are_handed_what_the_exchange_told(planted: Stage) -> None:
+    planted.shell('echo {} > /var/lib/goo-exchange/state.json; /usr/lib/goo/hand-over')
+    copied = '/var/lib/goo-records/exchange.json'
+    assert planted.run('stat', '-c', '%U %a', copied).out == 'goo-records 440\n'
+    assert planted.text(copied) == '{}\n'
+
+
+# ------------------------------------------------------------------ what the doctor tells
+
+@functools.cache
+def signed(days: int) -> str:
+    """A certificate that this host signs itself, for so many days from now."""
+    words = ['openssl', 'req', '-x509', '-newkey', 'ec', '-pkeyopt', 'ec_paramgen_curve:P-256', '-nodes',
+             '-days', str(days), '-subj', '/CN=a.example', '-keyout', '/dev/null']
+    return subprocess.run(words, check=True, capture_output=True, text=True).stdout
+
+
+def certificate(path: Path, days: int) -> None:
+    path.parent.mkdir(parents=True, exist_ok=True)
+    path.write_text(signed(days), encoding='ascii')
+
+
+@pytest.fixture
+def etc(tmp_path: Path, monkeypatch: pytest.MonkeyPatch) -> Path:
+    """The configuration of one of three hosts, whose certificates hold for long."""
+    folder = tmp_path / 'etc'
+    for name in ('tls/cert', 'etcd/ca', 'etcd/member', 'etcd/replica', 'peers/09'):
+        certificate(folder / f'{name}.pem', 100)
+    (folder / 'host.conf').write_text('server_name a.example;\n')
+    (folder / 'exchange.conf').write_text(f'[peer 9]\nauthority = {folder}/peers/09.pem\n')
+    (folder / 'records.conf').write_text('GOO_RECORDS_BEGIN=--begun 7 2025-03-01 1\n')
+    monkeypatch.setattr(setup_report, 'ETC', folder)
+    monkeypatch.setattr(setup_report, 'words_of_log', lambda: ['--etcd', 'https://192.0.2.1:2379'])
+    return folder
+
+
+@pytest.mark.parametrize('name', ['tls/cert', 'etcd/ca', 'etcd/member', 'etcd/replica', 'peers/09'])
+@pytest.mark.parametrize(('days', 'told'), [(32, ''), (30, 'ends in '), (1, 'ends in '), (0, 'has ended')])
+def test_a_certificate_is_told_thirty_days_before_its_end(etc: Path, name: str, days: int, told: str) -> None:
+    assert list(setup_report.certificate_ailments()) == []
+    certificate(etc / f'{name}.pem', days)
+    found = [what for what, _ in setup_report.certificate_ailments()]
+    assert len(found) == bool(told) and all(f'{name}.pem' in what and told in what for what in found), found
+
+
+def test_each_certificate_of_a_chain_is_looked_at(etc: Path) -> None:
+    chain = etc / 'tls/cert.pem'
+    chain.write_text(signed(100) + signed(10))
+    assert len(list(setup_report.certificate_ailments())) == 1
+    chain.write_text('no certificate')
+    assert ['cannot be read' in what for what, _ in setup_report.certificate_ailments()] == [True]
+
+
+@pytest.fixture
+def book(etc: Path, monkeypatch: pytest.MonkeyPatch) -> SimpleNamespace:
+    """A registry of three accounts, and a book that has the first `accounts` of them."""
+    state = SimpleNamespace(accounts=3, code=7)
+
+    def ask(path: str, route: str) -> tuple[int, str]:
+        number = int(route.partition('account=')[2].partition('&')[0])
+        items = [{'account': number}] if number <= state.accounts else []
+        return 200, json.dumps({'stands': {}, 'items': items})
+
+    monkeypatch.setattr(setup_report, 'ask', ask)
+    monkeypatch.setattr(setup_report, 'meta_of', lambda *_: 4)
+    monkeypatch.setattr(setup_report, 'code_of_registry', lambda: state.code)
+    return state
+
+
+def test_a_book_that_fits_its_log_is_well(book: SimpleNamespace) -> None:
+    assert list(setup_report.book_ailments(40, 40)) == []
+    assert list(setup_report.book_ailments(40, 20)) == [], 'it comes after the log'
+
+
+@pytest.mark.parametrize(('accounts', 'stands', 'code', 'told'), [
+    (0, 40, 7, 'has not account 3'), (2, 40, 7, 'has not account 3'), (3, 41, 7, 'is of another log'),
+    (3, 40, 8, 'with registry 7, and this is registry 8')])
+def test_a_book_of_another_beginning_is_told(book: SimpleNamespace, accounts: int, stands: int, code: int,
+                                             told: str) -> None:
+    book.accounts, book.code = accounts, code
+    found = list(setup_report.book_ailments(40, stands))
+    assert len(found) == 1 and told in found[0][0] and 'records.conf' in ' '.join(found[0]), found
+
+
+def test_what_services_wrote_reaches_no_terminal_as_it_is(capsys: pytest.CaptureFixture[str],
+                                                          monkeypatch: pytest.MonkeyPatch) -> None:
+    monkeypatch.setattr(setup_report, 'ailments', lambda: iter([('\x1b[2Ja\r\nb', 'c\x07')]))
+    assert setup_report.doctor(None) == 1
+    said = capsys.readouterr().out
+    assert said.splitlines()[:2] == ['?[2Ja??b', '    c?'], said
+
+
+# ------------------------------------------------------------------ the units
+
+def lines_of(path: Path) -> dict[str, list[str]]:
+    """The lines of a unit by their names; an empty value takes back those before it."""
+    found: dict[str, list[str]] = {}
+    for line in path.read_text(encoding='utf-8').splitlines():
+        name, equals, value = line.partition('=')
+        if equals and not line.startswith('#'):
+            found[name] = [*found.get(name, []), value] if value else []
+    return found
+
+
+UNITS = {path.name: lines_of(path) for path in (*DEPLOY.glob('systemd/*'), DEPLOY / 'etcd/goo-etcd.service')}
+SERVICES = {name: lines for name, lines in UNITS.items() if name.endswith('.service')}
+SHUT_IN = ('ProtectSystem', 'ProtectHome', 'PrivateTmp', 'PrivateDevices', 'ProtectClock', 'ProtectHostname',
+           'ProtectKernelLogs', 'ProtectKernelModules', 'ProtectKernelTunables', 'ProtectControlGroups',
+           'LockPersonality', 'MemoryDenyWriteExecute', 'RestrictNamespaces', 'RestrictRealtime',
+           'RestrictSUIDSGID', 'RestrictAddressFamilies', 'CapabilityBoundingSet', 'SystemCallArchitectures',
+           'SystemCallFilter', 'UMask')
+
+
+@pytest.mark.parametrize('name', sorted(SERVICES))
+def test_a_service_that_stays_up_is_never_given_up(name: str) -> None:
+    lines = SERVICES[name]
+    restarts, kind = lines.get('Restart', ['no'])[-1], lines.get('Type', ['simple'])[-1]
+    if kind == 'oneshot':
+        return
+    assert restarts in ('always', 'on-failure'), f'{name} stays down'
+    assert lines.get('StartLimitIntervalSec') == ['0'] and 'StartLimitBurst' not in lines
+
+
+@pytest.mark.parametrize('name', sorted(SERVICES))
+def test_a_service_that_fails_is_told(name: str) -> None:
+    assert name == 'goo-alarm@.service' or SERVICES[name]['OnFailure'] == ['goo-alarm@%n.service']
+
+
+@pytest.mark.parametrize('name', sorted(SERVICES))
+def test_a_service_is_shut_in(name: str) -> None:
+    lacking = [line for line in SHUT_IN if line not in SERVICES[name]]
+    assert not lacking, lacking
+
+
+def test_all_that_can_be_enabled_is_started_by_set_up_or_by_the_operator() -> None:
+    installed = {name for name, lines in UNITS.items() if 'WantedBy' in lines}
+    by_operator = {'goo-ship.service', 'goo-exchange.timer', 'goo-etcd.service', setup_common.ON_ONE}
+    assert installed - by_operator - set(setup_common.EVERYWHERE) <= {'goo-records-web.service', 'goo-records-verify.service'}
+    assert set(setup_common.EVERYWHERE) <= set(UNITS)
+    assert set(setup_common.NEWER) <= set(setup_common.EVERYWHERE)
+
+
+# ------------------------------------------------------------------ units that do not stay up
+
+def units_program() -> ModuleType:
+    loader = SourceFileLoader('goo_units', str(DEPLOY / 'units'))
+    module = module_from_spec(spec_from_loader('goo_units', loader))
+    sys.modules['goo_units'] = module       # dataclasses look for it there
+    loader.exec_module(module)
+    return module
+
+
+SHOWN = '\n'.join(['Id={}', 'Type={}', 'ActiveState={}', 'SubState={}', 'Result={}', 'NRestarts={}', ''])
+WELL = SHOWN.format('goo.service', 'exec', 'active', 'running', 'success', '7')
+
+
+@pytest.mark.parametrize(('unit', 'told'), [
+    (('goo-replica.service', 'exec', 'activating', 'auto-restart', 'exit-code', '61'), 'again and again'),
+    (('goo-replica.service', 'exec', 'active', 'running', 'exit-code', '61'), 'started again 11 times'),
+    (('goo-replica.service', 'exec', 'active', 'running', 'success', '52'), ''),
+    (('goo-replica.service', 'exec', 'active', 'running', 'success', '0'), ''),
+    (('goo-replica.service', 'exec', 'failed', 'failed', 'exit-code', '50'), 'has failed (exit-code)'),
+    (('goo-door.socket', '', 'failed', 'failed', 'trigger-limit-hit', ''), 'has failed (trigger-limit-hit)'),
+    (('goo-backup.service', 'oneshot', 'failed', 'failed', 'exit-code', '0'), ''),
+    (('goo-records.service', 'exec', 'inactive', 'dead', 'success', '0'), '')])
+def test_units_that_do_not_stay_up_are_told(unit: tuple[str, ...], told: str) -> None:
+    module = units_program()
+    found = module.faults(module.units_in(f'{WELL}\n{SHOWN.format(*unit)}'),
+                          {'goo.service': 7, 'goo-replica.service': 50})
+    assert len(found) == bool(told) and all(unit[0] in line and told in line for line in found), found
