@@ -276,6 +276,10 @@ def exchange_ailments():
         yield f'the exchange ran last at {written}', 'systemctl status goo-exchange.timer; journalctl -u goo-exchange -n 20'
 
 
+def utc_now():
+    return datetime.datetime.now(datetime.timezone.utc).replace(tzinfo=None)
+
+
 def days_left(path):
     """For how many days the certificates of a file hold, by the first one that ends; None where one cannot be read."""
     try:
@@ -283,8 +287,7 @@ def days_left(path):
     except OSError:
         return None
     ends = [subprocess.run(['openssl', 'x509', '-noout', '-enddate'], input=block, capture_output=True, text=True, check=False).stdout.strip().removeprefix('notAfter=') for block in blocks]
-    now = datetime.datetime.now(datetime.timezone.utc).replace(tzinfo=None)
-    return min((datetime.datetime.strptime(end, '%b %d %H:%M:%S %Y %Z') - now).days for end in ends) if ends and all(ends) else None
+    return min((datetime.datetime.strptime(end, '%b %d %H:%M:%S %Y %Z') - utc_now()).days for end in ends) if ends and all(ends) else None
 
 
 def certificates():

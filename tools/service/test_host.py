@@ -1,4 +1,5 @@
 """The host around the registry: units, set-up, upgrade, exchange, certificates, and what root touches."""
+import datetime
 import functools
 import itertools
 import json
@@ -441,12 +442,18 @@ def etc(tmp_path: Path, monkeypatch: pytest.MonkeyPatch) -> Path:
 
 
 @pytest.mark.parametrize('name', ['tls/cert', 'etcd/ca', 'etcd/member', 'etcd/replica', 'peers/09'])
-@pytest.mark.parametrize(('days', 'told'), [(32, ''), (30, 'ends in '), (1, 'ends in '), (0, 'has ended')])
+@pytest.mark.parametrize(('days', 'told'), [(32, ''), (30, 'ends in 29 days'), (1, 'ends in 0 days')])
 def test_a_certificate_is_told_thirty_days_before_its_end(etc: Path, name: str, days: int, told: str) -> None:
     assert list(setup_report.certificate_ailments()) == []
     certificate(etc / f'{name}.pem', days)
     found = [what for what, _ in setup_report.certificate_ailments()]
     assert len(found) == bool(told) and all(f'{name}.pem' in what and told in what for what in found), found
+
+
+def test_a_certificate_that_has_ended_is_told(etc: Path, monkeypatch: pytest.MonkeyPatch) -> None:
+    later = setup_report.utc_now() + datetime.timedelta(101)
+    monkeypatch.setattr(setup_report, 'utc_now', lambda: later)
+    assert sum('has ended' in what for what, _ in setup_report.certificate_ailments()) == 5
 
 
 def test_each_certificate_of_a_chain_is_looked_at(etc: Path) -> None:
@@ -510,6 +517,8 @@ def lines_of(path: Path) -> dict[str, list[str]]:
 
 UNITS = {path.name: lines_of(path) for path in (*DEPLOY.glob('systemd/*'), DEPLOY / 'etcd/goo-etcd.service')}
 SERVICES = {name: lines for name, lines in UNITS.items() if name.endswith('.service')}
+ONE_EACH = {name.replace('.socket', '@.service') for name, lines in UNITS.items() if lines.get('Accept') == ['yes']}
+"""Services of one connection each: whoever has connected is told of a failure."""
 SHUT_IN = ('ProtectSystem', 'ProtectHome', 'PrivateTmp', 'PrivateDevices', 'ProtectClock', 'ProtectHostname',
            'ProtectKernelLogs', 'ProtectKernelModules', 'ProtectKernelTunables', 'ProtectControlGroups',
            'LockPersonality', 'MemoryDenyWriteExecute', 'RestrictNamespaces', 'RestrictRealtime',
@@ -521,7 +530,7 @@ SHUT_IN = ('ProtectSystem', 'ProtectHome', 'PrivateTmp', 'PrivateDevices', 'Prot
 def test_a_service_that_stays_up_is_never_given_up(name: str) -> None:
     lines = SERVICES[name]
     restarts, kind = lines.get('Restart', ['no'])[-1], lines.get('Type', ['simple'])[-1]
-    if kind == 'oneshot':
+    if kind == 'oneshot' or name in ONE_EACH:
         return
     assert restarts in ('always', 'on-failure'), f'{name} stays down'
     assert lines.get('StartLimitIntervalSec') == ['0'] and 'StartLimitBurst' not in lines
@@ -529,7 +538,8 @@ def test_a_service_that_stays_up_is_never_given_up(name: str) -> None:
 
 @pytest.mark.parametrize('name', sorted(SERVICES))
 def test_a_service_that_fails_is_told(name: str) -> None:
-    assert name == 'goo-alarm@.service' or SERVICES[name]['OnFailure'] == ['goo-alarm@%n.service']
+    if name != 'goo-alarm@.service' and name not in ONE_EACH:
+        assert SERVICES[name]['OnFailure'] == ['goo-alarm@%n.service']
 
 
 @pytest.mark.parametrize('name', sorted(SERVICES))
@@ -541,7 +551,8 @@ def test_a_service_is_shut_in(name: str) -> None:
 def test_all_that_can_be_enabled_is_started_by_set_up_or_by_the_operator() -> None:
     installed = {name for name, lines in UNITS.items() if 'WantedBy' in lines}
     by_operator = {'goo-ship.service', 'goo-exchange.timer', 'goo-etcd.service', setup_common.ON_ONE}
-    assert installed - by_operator - set(setup_common.EVERYWHERE) <= {'goo-records-web.service', 'goo-records-verify.service'}
+    by_socket = {'goo-records-web.service', 'goo-records-verify.service'}
+    assert installed - by_operator - set(setup_common.EVERYWHERE) <= by_socket
     assert set(setup_common.EVERYWHERE) <= set(UNITS)
     assert set(setup_common.NEWER) <= set(setup_common.EVERYWHERE)
 
