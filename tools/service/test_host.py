@@ -317,6 +317,12 @@ PLANTS = {
                           'ln -s /run/canary/folder "$1/00000000000000000001.jsonl"; '
                           'ln -s /run/canary/file "$1/place.json"; ln -s /run/canary/folder "$1/folder"',
 }
+AROUND_THE_LOG = (
+    'replica-log verify', 'replica-log verify --from {COPY}', 'replica-log compress', 'replica-log found',
+    'replica-log version x', 'replica-log first-copy', 'replica-log place {COPY}', 'replica-log copy',
+    'env GOO_RECOUNT= backup', 'goo-setup upgraded', 'restore {COPY} --without-list --although-broken',
+    'restore --open --unsettled', 'log-setup')
+"""What root carries out by the programs of the log and of the copies; the later ones change what runs."""
 ROOTS_FOLDERS = ('/run', '/run/goo', '/run/goo-front', '/var/lib', '/var/log/goo', '/var/backups/goo',
                  '/etc/goo', '/etc/goo/peers', '/etc/goo/tls', '/usr/lib/goo', '/run/goo-units')
 COPY = '/var/backups/goo/2025-01-01T000000Z'
@@ -379,21 +385,44 @@ def planted(stage: Stage) -> Iterator[Stage]:
     yield stage
 
 
-@pytest.mark.parametrize('kind', PLANTS)
-def test_root_follows_nothing_that_a_service_has_planted(planted: Stage, kind: str) -> None:
-    canary = Canary(planted)
+def plant(stage: Stage, kind: str) -> Canary:
+    """Each user puts this into the place of all that stands in its folder, or could."""
+    canary = Canary(stage)
     for user_folder, names in NAMES.items():
         user = FOLDERS[user_folder]
         text = f'cd {user_folder}; for name in {names}; do set -- "$name"; {PLANTS[kind]}; done'
-        done = planted.run('setpriv', f'--reuid={user}', f'--regid={user}', '--clear-groups', 'sh', '-ec', text)
+        done = stage.run('setpriv', f'--reuid={user}', f'--regid={user}', '--clear-groups', 'sh', '-ec', text)
         assert done.status == 0, done
     assert canary.seen() == [], 'planting itself touches nothing'
+    return canary
+
+
+@pytest.mark.parametrize('kind', PLANTS)
+def test_root_follows_nothing_that_a_service_has_planted(planted: Stage, kind: str) -> None:
+    canary = plant(planted, kind)
     for what, text in {**privileged_lines(), **WORK}.items():
         done = planted.run('sh', '-c', text, seconds=100)
         assert 'Traceback' not in done.err and 'SECRET' not in done.out + done.err, f'{what}: {done}'
         assert canary.seen() == [], f'{what}: {done}'
     secrets = planted.run('grep', '-rlD', 'skip', 'SECRET', '/var/lib', '/var/backups', '/etc/goo', '/run/goo')
     assert secrets.out == '', 'a copy of it is somewhere'
+    canary.close()
+
+
+@pytest.mark.parametrize('kind', [kind for kind in PLANTS if kind != 'pipes'])
+def test_root_follows_nothing_around_the_log(planted: Stage, kind: str) -> None:
+    planted.shell(f'cd {COPY}; rm registry.db; sqlite3 registry.db "CREATE TABLE meta (version, code)"\n'
+                  'echo ok > audit.txt\n'
+                  'echo \'{"n": 3, "hash": "a", "chain": "b", "version": "c"}\' > place.json\n'
+                  'mkdir -p /etc/systemd/system/goo-door.socket.d\n'
+                  'touch /etc/systemd/system/goo-door.socket.d/replica.conf\n'
+                  'systemctl start goo.service goo-replica.service')
+    canary = plant(planted, kind)
+    for words in AROUND_THE_LOG:
+        text = f'PATH=/usr/lib/goo:$PATH; exec timeout -k 1 20 {words.replace("{COPY}", COPY)}'
+        done = planted.run('sh', '-c', text)
+        assert done.status != 124 and 'Traceback' not in done.err, f'{words}: {done}'
+        assert canary.seen() == [], f'{words}: {done}'
     canary.close()
 
 
