@@ -31,7 +31,7 @@ FEW, MOST_THREES = 20_000, 60
 """Acts that are read one by one where a text is looked for: of more the index of texts tells those that can have it. And how many threes of letters it is asked for at once."""
 DAYS = ('from', 'to', 'expires_before')
 """Parameters that are days."""
-WHOLE = ('account', 'peer', 'number')
+WHOLE = ('account', 'peer', 'number', 'origin')
 """Filters that are whole numbers."""
 WORDS = {'kind': (*KINDS.values(), 'expiry', 'unreadable'), 'outcome': ('accepted', 'refused', 'unreadable', 'set aside')}
 """Filters that are one of these words."""

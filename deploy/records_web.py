@@ -33,6 +33,8 @@ Limits = namedtuple('Limits', 'question file files', defaults=(10, 60, 2))
 STEPS = 10_000
 """Steps of SQLite after which it is looked whether the time is over."""
 BUSY = {'Retry-After': '10'}
+KEY = 64
+"""Bytes of the key of check codes."""
 
 
 class TooLong(Exception):
@@ -73,7 +75,11 @@ class Service:
 
     @functools.cached_property
     def key(self):
-        return (self.folder / 'code.key').read_bytes().strip()
+        path = self.folder / 'code.key'
+        key = path.read_bytes().strip()
+        if len(key) < KEY:
+            raise OSError(f'{path} has {len(key)} bytes, and a key of check codes has {KEY}')
+        return key
 
     def book(self, end):
         """One moment of the present book, for one answer that has time until then."""
@@ -108,7 +114,7 @@ class Service:
             return reply(503, {'error': 'the records are being made'}, **BUSY)
         try:
             answer = self.shown(ask(database, asked), database, name, is_file)
-        except (TooLong, Busy, sqlite3.DatabaseError, BadQuestion, NotFound, TooFew) as error:
+        except (TooLong, Busy, OSError, sqlite3.DatabaseError, BadQuestion, NotFound, TooFew) as error:
             answer = self.failed(error, database.is_late(), seconds)
         except BaseException:
             database.close()

@@ -166,6 +166,26 @@ def test_no_request_ends_the_book(made: Made) -> None:
     assert counts == dict.fromkeys(('unreadable', 'set aside', 'refused'), len(BODIES))
 
 
+LETTERS = [chr(code) for code in (0x20, 0x21, 0x22, 0x27, 0x2c, 0x3d, 0x5c, 0x7e, 0xa0, 0xad, 0xdf,
+                                  0x130, 0x300, 0x5d0, 0x200b, 0x202e, 0x2028, 0xd7ff, 0xe000,
+                                  0xfeff, 0xfffd, 0xffff, 0x1f600, 0x10ffff)]
+
+
+def test_accepted_names_of_any_letters_are_kept(made: Made) -> None:
+    chance, names = random.Random(7), []
+    while len(names) < 150:
+        name = ''.join(chance.choices(LETTERS, k=chance.randint(1, 16)))
+        if readings.is_name(name):
+            names.append(name)
+    for at, name in enumerate(names):
+        made.must(ISSUER, 'open_holder', holder=f'N{at}', name=name)
+    kept = {item['code']: item['name'] for item in made.items(ISSUER, 'holders')}
+    assert [kept[f'N{at}'] for at in range(len(names))] == names
+    assert [act['note'] for act in made.acts()[:len(names)]] == names[::-1]
+    found = made.acts(q=names[5])
+    assert names[5] in {act['note'] for act in found}
+
+
 def test_a_table_that_was_set_aside_is_told_so(made: Made) -> None:
     made.take(made.record(ISSUER, '/v1/declarations', HEADER, 500, b'Set aside\n'))
     assert made.acts()[0]['outcome'] == 'set aside'

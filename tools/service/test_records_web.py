@@ -8,7 +8,9 @@ from typing import Any
 import pytest
 import records_parameters
 import records_web
+from house import DEPLOY
 from made_book import Made
+from model import script
 from rules import ISSUER
 
 ROUTES = {'acts/NUMBER': 'acts/1', 'certificates/NUMBER': 'certificates/7000000000001',
@@ -57,7 +59,7 @@ def test_a_parameter_that_is_given_twice_is_named(made: Made) -> None:
     ('acts?kind=issues', 'kind'), ('acts?outcome=ok', 'outcome'), ('acts?peer=nine', 'peer'),
     ('acts?number=one', 'number'), ('acts?account=SUN', 'account'), ('acts?format=xml', 'format'),
     ('holdings?limit=0', 'limit'), ('holdings?offset=-1', 'offset'),
-    ('holdings?tradable=maybe', 'tradable'),
+    ('holdings?tradable=maybe', 'tradable'), ('holdings?origin=seven', 'origin'),
     ('holdings?account=one', 'account'), ('accounts?account=one', 'account'),
     ('cancellations?number=one', 'number'), ('notices?peer=nine', 'peer'),
     ('accounts?limit=0', 'limit'),
@@ -185,6 +187,28 @@ def test_files_that_are_written_at_once_are_few(made: Made) -> None:
     for answer in under_way:
         answer.close()
     assert client.get('/records/v1/acts?format=csv', headers=HEAD).status_code == 200
+
+
+# ------------------------------------------------------------ the key of check codes
+
+def test_a_key_that_a_crash_left_empty_makes_no_codes(made: Made) -> None:
+    for text in ('', 'ab\n'):
+        (made.folder / 'code.key').write_text(text)
+        assert made.asked(ISSUER, '/records/v1/cancellations/1')[0] == 503
+        assert made.asked(None, '/verify', number=1, code='A' * 16)[0] == 503
+    assert made.asked(ISSUER, '/records/v1/acts')[0] == 200
+
+
+def test_a_key_is_made_whole_and_once(tmp_path: Path) -> None:
+    records, path = script(DEPLOY / 'records'), tmp_path / 'code.key'
+    (tmp_path / '.code.key.part').write_text('what a crash left')
+    records.make_key(path)
+    key = path.read_text()
+    assert len(key) == records_web.KEY + 1
+    assert path.stat().st_mode & 0o777 == 0o640
+    records.make_key(path)
+    assert path.read_text() == key
+    assert [found.name for found in tmp_path.iterdir()] == ['code.key']
 
 
 # ------------------------------------------------------------ what a choice is for
