@@ -2,11 +2,12 @@
 import base64
 import http.client
 import io
+import secrets
 import select
 import socket
 import time
 from collections import namedtuple
-from contextlib import closing
+from contextlib import closing, suppress
 
 PHRASES = {200: 'OK', 400: 'Bad Request', 403: 'Forbidden', 404: 'Not Found', 405: 'Method Not Allowed', 409: 'Conflict', 413: 'Content Too Large',
            501: 'Not Implemented', 503: 'Service Unavailable'}
@@ -22,10 +23,11 @@ Answer = namedtuple('Answer', 'status fields body')
 # Servers and connections
 
 def free_port():
-    """A port of 127.0.0.1 that nothing listens on."""
-    with closing(socket.socket()) as listener:
-        listener.bind(('127.0.0.1', 0))
-        return listener.getsockname()[1]
+    """A port of 127.0.0.1 that nothing listens on; none of those that a connection takes by itself, so that it stays free."""
+    while True:
+        with closing(socket.socket()) as listener, suppress(OSError):
+            listener.bind(('127.0.0.1', 10_000 + secrets.randbelow(22_000)))
+            return listener.getsockname()[1]
 
 
 def listening(start, patience=PATIENCE):

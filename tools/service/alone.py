@@ -96,7 +96,7 @@ class Alone:
         self.state.mkdir()
         (self.folder / 'key').write_bytes(KEY)
         self.registry = StandIn(self.folder / 'registry.sock', self.known)
-        self.guard = Guard(self.folder)
+        self.guard = Guard([self.folder])
         self.common = ['--state', str(self.state), '--key', str(self.folder / 'key'),
                        '--name', 'h1', '--version', 'trial']
         try:

@@ -13,6 +13,7 @@ from the book) and 'verify' (which checks documents by it). Nothing starts a par
 ended: a trial does, by `start`.
 """
 import datetime
+import functools
 import json
 import os
 import re
@@ -110,6 +111,43 @@ def fields_of(named: dict[str, str]) -> list[str]:
     return [f'{name.replace("_", "-")}: {value}' for name, value in named.items()]
 
 
+def run(folder: Path, *words: object, check: bool = True,
+        **environment: str) -> subprocess.CompletedProcess[str]:
+    """A command in a folder; where `check` is set, one that has to succeed."""
+    done = subprocess.run([str(word) for word in words], capture_output=True, text=True,
+                          env={**os.environ, **environment}, cwd=folder, check=False)
+    if check and done.returncode:
+        raise Unexpected(f'{words}: {done.stdout} {done.stderr}')
+    return done
+
+
+def log_words(folder: Path, goo: str, deploy: Path,
+              *words: object) -> subprocess.CompletedProcess[str]:
+    """replica-log with the paths of a house in a folder."""
+    return run(folder, deploy / 'replica-log', *words, '--state', folder / 'replica',
+               '--key', folder / 'replica.key', '--door', folder / 'door.sock',
+               '--copies', folder / 'copies', '--db', folder / 'registry/registry.db',
+               '--goo', goo, '--name', 'house', check=False, TMPDIR=str(folder),
+               GOO_EXCHANGE='/nowhere', GOO_CONFIGURATION='/nowhere')
+
+
+@functools.cache
+def begun(goo: str, deploy: Path, day: str) -> tempfile.TemporaryDirectory[str]:
+    """An empty registry with its log and its first copy: each house begins with a copy of it."""
+    made = tempfile.TemporaryDirectory(prefix='goo-begun-')
+    folder = Path(made.name)
+    for name in ('registry', 'replica', 'records', 'copies'):
+        (folder / name).mkdir()
+    (folder / 'replica.key').write_text('a key that the log of a house has')
+    run(folder, goo, 'init', '--db', 'registry/registry.db', '--code', CODE, '--today', day)
+    for word in ('found', 'first-copy', 'program'):
+        done = log_words(folder, goo, deploy, word)
+        if done.returncode:
+            raise Unexpected(f'replica-log {word}: {done.stderr}')
+    (folder / 'version').write_text(done.stdout)
+    return made
+
+
 class House:
     """One standing service. `deploy` may be a changed copy of deploy/.
 
@@ -131,9 +169,10 @@ class House:
     # ---------------------------------------------------------------- standing
 
     def __enter__(self) -> Self:
+        self.first = Path(begun(self.goo, self.deploy, self.day).name)
         self.folder = Path(tempfile.mkdtemp(prefix='goo-house-'))
         self.folder.chmod(0o755)
-        self.guard = Guard(self.folder)
+        self.guard = Guard([self.folder, self.first])
         self.parts: dict[str, Part] = {}
         try:
             self.lay()
@@ -158,32 +197,29 @@ class House:
         self.guard.end()
 
     def lay(self) -> None:
-        """An empty registry, its log, its first copy, and the files of the front door."""
+        """An empty registry, its log, its first copy, and what starts each part."""
+        shutil.copytree(self.first, self.folder, dirs_exist_ok=True)
         self.db = self.folder / 'registry' / 'registry.db'
         self.state = self.folder / 'replica'
         self.book = self.folder / 'records'
         self.copies = self.folder / 'copies'
         self.key = self.folder / 'replica.key'
-        for folder in (self.db.parent, self.state, self.book, self.copies):
-            folder.mkdir()
-        self.key.write_text('a key that the log of a house has')
-        self.run(self.goo, 'init', '--db', self.db, '--code', CODE, '--today', self.day)
-        for words in (('found',), ('first-copy',)):
-            done = self.log_words(*words)
-            if done.returncode:
-                raise Unexpected(f'replica-log {words}: {done.stderr}')
-        version = self.log_words('program').stdout
-        (self.folder / 'version').write_text(version)
-        self.lay_door()
+        self.door.dir, self.door.etc = self.folder, self.folder / 'etc'
+        self.registry_port = client.free_port()
         self.lay_parts()
 
     def lay_door(self) -> None:
-        self.door.dir = self.folder
-        self.door.exchange = self.folder / 'exchange'
-        self.door.exchange.mkdir()
-        self.door.lay_nginx()
-        self.port, self.plain = self.door.port, self.door.plain
-        self.registry_port = client.free_port()
+        """The files of nginx, before its first start; its inner sockets go before each.
+
+        A killed nginx leaves them behind, and its unit removes them too.
+        """
+        if not self.door.etc.exists():
+            self.door.exchange = self.folder / 'exchange'
+            self.door.exchange.mkdir()
+            self.door.lay_nginx()
+            self.port, self.plain = self.door.port, self.door.plain
+        for name in ('desk.sock', 'sign-in.sock'):
+            (self.folder / name).unlink(missing_ok=True)
 
     def lay_parts(self) -> None:
         begun = ['--begun', str(CODE), self.day, '1',
@@ -198,7 +234,7 @@ class House:
         self.add_web('verify')
         self.add('nginx', lambda: [str(word) for word in self.door.nginx_words()],
                  lambda _: client.is_open(self.port))
-        self.parts['nginx'].before = self.clear_desk
+        self.parts['nginx'].before = self.lay_door
 
     def add_web(self, name: str) -> None:
         """A part that answers from the book, at a socket of its own."""
@@ -241,11 +277,6 @@ class House:
         """Whether a book was published since a time."""
         current = self.book / 'current'
         return current.is_symlink() and current.lstat().st_mtime >= begun - 0.01
-
-    def clear_desk(self) -> None:
-        """A killed nginx leaves its inner sockets behind; its unit removes them before a start."""
-        for name in ('desk.sock', 'sign-in.sock'):
-            (self.folder / name).unlink(missing_ok=True)
 
     # ---------------------------------------------------------------- parts
 
@@ -335,19 +366,11 @@ class House:
     def run(self, *words: object, check: bool = True,
             **environment: str) -> subprocess.CompletedProcess[str]:
         """A command; where `check` is set, one that has to succeed."""
-        done = subprocess.run([str(word) for word in words], capture_output=True, text=True,
-                              env={**os.environ, **environment}, cwd=self.folder, check=False)
-        if check and done.returncode:
-            raise Unexpected(f'{words}: {done.stdout} {done.stderr}')
-        return done
+        return run(self.folder, *words, check=check, **environment)
 
     def log_words(self, *words: object) -> subprocess.CompletedProcess[str]:
         """replica-log with the paths of this house."""
-        return self.run(
-            self.deploy / 'replica-log', *words, '--state', self.state, '--key', self.key,
-            '--door', self.folder / 'door.sock', '--copies', self.copies, '--db', self.db,
-            '--goo', self.goo, '--name', 'house', check=False, TMPDIR=str(self.folder),
-            GOO_EXCHANGE='/nowhere', GOO_CONFIGURATION='/nowhere')
+        return log_words(self.folder, self.goo, self.deploy, *words)
 
     def make_country(self, count: int = 100) -> Country:
         """Holders SUN and VOLT with an account each, a device of SUN's, and its certificates.

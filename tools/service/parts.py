@@ -24,13 +24,13 @@ class NotStarted(Exception):
 
 @dataclass
 class Guard:
-    """Ends all groups that it was told of, and takes the folder away, once this process is gone."""
+    """Ends all groups that it was told of, and takes folders away, once this process is gone."""
 
-    folder: Path
+    folders: list[Path]
     process: subprocess.Popen[str] = field(init=False)
 
     def __post_init__(self) -> None:
-        words = [sys.executable, '-B', __file__, str(self.folder)]
+        words = [sys.executable, '-B', __file__, *map(str, self.folders)]
         self.process = subprocess.Popen(words, stdin=subprocess.PIPE, text=True,
                                         start_new_session=True)
 
@@ -135,7 +135,7 @@ def processes_of(leader: int) -> list[int]:
     return found
 
 
-def guard(folder: Path) -> None:
+def guard(folders: list[str]) -> None:
     """Reads what was begun and what has ended, until this is done or whoever tells it is gone."""
     groups: set[int] = set()
     for line in sys.stdin:
@@ -146,8 +146,9 @@ def guard(folder: Path) -> None:
     for group in groups:
         with contextlib.suppress(ProcessLookupError):
             os.killpg(group, signal.SIGKILL)
-    shutil.rmtree(folder, ignore_errors=True)
+    for folder in folders:
+        shutil.rmtree(folder, ignore_errors=True)
 
 
 if __name__ == '__main__':
-    guard(Path(sys.argv[1]))
+    guard(sys.argv[1:])

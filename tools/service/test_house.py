@@ -67,7 +67,7 @@ import signal, sys, time
 sys.path[:0] = sys.argv[1:]
 from house import House
 with House() as house:
-    print(house.folder, house.port, house.registry_port, flush=True)
+    print(house.folder, house.first, house.port, house.registry_port, flush=True)
     time.sleep(600)
 """
 
@@ -77,10 +77,10 @@ def test_a_house_goes_with_whoever_made_it(number: int) -> None:
     stands = subprocess.Popen([sys.executable, '-B', '-c', STANDS, *sys.path],
                               stdout=subprocess.PIPE, text=True)
     assert stands.stdout
-    folder, *ports = stands.stdout.readline().split()
+    folder, first, *ports = stands.stdout.readline().split()
     assert all(client.is_open(int(port)) for port in ports)
     os.kill(stands.pid, number)
     stands.wait(60)
     stands.stdout.close()
-    assert client.comes(lambda: not Path(folder).exists(), 30)
+    assert client.comes(lambda: not Path(folder).exists() and not Path(first).exists(), 30)
     assert not any(client.is_open(int(port)) for port in ports)
