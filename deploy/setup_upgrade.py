@@ -17,6 +17,7 @@ from collections.abc import Iterator
 
 import setup_hosts
 from setup_common import DATABASE
+from setup_common import ETC
 from setup_common import LED
 from setup_common import LOG
 from setup_common import NEWER
@@ -43,6 +44,7 @@ RAN = pathlib.Path('/run/goo-upgrade')
 """Which units ran, from before the first one is stopped until all run again."""
 OPENS_AGAIN = pathlib.Path('/run/goo/begins-again')
 """While this is there, a stop of the registry does not open the file: the next start does."""
+LOGS = pathlib.Path('/var/log/goo')
 OTHERS = ('goo-records.service', 'goo-records-web.service', 'goo-records-verify.service',
           'goo-ship.service')
 PATIENCE, STARTS = 900, 3
@@ -62,11 +64,11 @@ def upgraded(given: argparse.Namespace) -> int:
         return 0
     if REFUSED.exists():        # an earlier try went back to the program of before
         REFUSED.replace(PROGRAM)
-    has_log = LOGGED.exists() and (LOG / 'place').exists()
+    has_log, waits = LOGGED.exists() and (LOG / 'place').exists(), was_well()
     try:
-        begin_version(has_log)
+        begin_version(has_log, waits)
     except BaseException as fault:
-        if not go_back(has_log):
+        if not go_back(has_log, waits):
             raise
         raise Refused(f'{fault}\ngoo: the new version does not take over, and the program of before '
                       'runs again. dpkg --configure goo tries the new one again; or install the '
@@ -81,7 +83,7 @@ def renew(given: argparse.Namespace) -> int:
     """On one of three hosts, the first of which has the log go over to the new version."""
     if not words_of_log():
         raise Refused('this host is alone: apt has begun the new version')
-    begin_version(has_log=True)
+    begin_version(True, was_well())
     BEFORE.unlink(missing_ok=True)
     begin_others()
     print('goo: this host takes requests with the new version; the next one: goo-setup renew')
@@ -90,9 +92,16 @@ def renew(given: argparse.Namespace) -> int:
 
 # ------------------------------------------------------------------ one version and the next
 
-def begin_version(has_log: bool) -> None:
-    """From here on the log's entries are applied by this program, and what runs is started anew."""
-    waits = RAN.exists() or not health()[0]         # one that was not well before need not be now
+def was_well() -> bool:
+    """Whether the registry took requests, or was stopped by a call that was cut off."""
+    return RAN.exists() or not health()[0]
+
+
+def begin_version(has_log: bool, waits: bool) -> None:
+    """From here on the log's entries are applied by this program, and what runs is started anew.
+
+    A registry that was not well before need not be now: then it is not waited for.
+    """
     with stopped():
         check_tables()
         if has_log:
@@ -104,6 +113,9 @@ def begin_version(has_log: bool) -> None:
 def begin_others() -> None:
     """What stands around the registry goes over to the new version."""
     run('systemctl', 'try-restart', *OTHERS)
+    for path in (*(ETC / name for name in ('callers', 'callers.map')), *LOGS.glob('*')):
+        if path.exists():               # an earlier version has shown them to every user of the host
+            path.chmod(path.stat().st_mode & 0o640)
     for unit in NEWER:                              # one that is masked stays so
         if says('systemctl', 'is-enabled', unit) == 'disabled':
             run('systemctl', 'enable', '--now', unit)
@@ -180,20 +192,21 @@ def wait_for_program() -> None:
 
 # ------------------------------------------------------------------ back to the program of before
 
-def go_back(has_log: bool) -> bool:
+def go_back(has_log: bool, waits: bool) -> bool:
     """Puts the program of before in place again, and the log back to its version."""
     if not BEFORE.exists() or os.path.samefile(BEFORE, PROGRAM):
         return False
-    PROGRAM.replace(REFUSED)
     part = PROGRAM.with_name('goo.part')
-    part.unlink(missing_ok=True)
-    os.link(BEFORE, part)
+    for path, kept in ((REFUSED, PROGRAM), (part, BEFORE)):
+        path.unlink(missing_ok=True)
+        os.link(kept, path)
     part.replace(PROGRAM)
     try:
         with stopped():
             if has_log:
                 move_log()
-        wait_for_registry()
+        if waits:
+            wait_for_registry()
     except (Refused, OSError, subprocess.SubprocessError) as fault:
         print(f'goo: the program of before: {fault}', file=sys.stderr)
     return True
