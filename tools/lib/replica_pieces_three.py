@@ -562,7 +562,7 @@ def front_door(host, folder):
     """nginx on a host, as a stand-in for its front door, and with /healthz for the balancer."""
     folder.mkdir()
     health = (HOME / "deploy/nginx/health.conf").read_text().replace("192.0.2.10", GATE).replace("unix:/run/goo/door.sock", f"127.0.0.1:{host.port}")
-    front = f"server {{ listen {host.address}:443; location / {{ proxy_pass http://127.0.0.1:{host.port}; proxy_set_header Host goo; proxy_set_header Connection close; proxy_next_upstream off; }} }}"
+    front = f"server {{ listen {host.address}:8443 proxy_protocol; location / {{ proxy_pass http://127.0.0.1:{host.port}; proxy_set_header Host goo; proxy_set_header Connection close; proxy_next_upstream off; }} }}"
     temp = "".join(f"{kind}_temp_path {folder}/{kind};\n" for kind in ("client_body", "proxy", "fastcgi", "uwsgi", "scgi"))
     (folder / "nginx.conf").write_text(f"user root;\ndaemon off;\nworker_processes 1;\npid {folder}/pid;\nerror_log {folder}/error.log;\nevents {{ }}\nhttp {{\n{temp}{health}\n{front}\n}}\n")
     return subprocess.Popen(host.inside("nginx", "-p", folder, "-e", folder / "error.log", "-c", folder / "nginx.conf"))

@@ -271,6 +271,12 @@ def test_wrong_passwords_have_a_limit_of_their_own() -> None:
         assert statuses(place, 3, 'anna', source=VISITOR) == [404] * 3
 
 
+def test_requests_without_a_password_are_no_guesses() -> None:
+    with Place(changes=FEW_COMPARISONS, cost=4) as place:
+        assert [ask(place, 'GET', '/').status for _ in range(10)] == [401] * 10
+        assert statuses(place, 1, 'anna', 'wrong') + statuses(place, 1, 'anna') == [401, 404]
+
+
 def test_guessing_shuts_out_nobody_who_signed_in_there() -> None:
     """A password that was right is right for longer where no more may be compared."""
     with Place(changes=(*FEW_COMPARISONS, SHORT), cost=4) as place:
