@@ -113,11 +113,19 @@ def declare(row):
     return entries.compact({"command": "declare", "key": key, "device": device, "first_day": first, "last_day": last, "gross_wh": int(gross), "aux_wh": int(aux)})
 
 
+def lines_of(archive, after):
+    """The lines of an archive, from the file with entry `after` on. Where it ends with more than a line that is being written, it is damaged."""
+    path, at = None, 0
+    for path, line, at in entries.whole_lines(archive, after, None, 0):
+        yield line
+    entries.ended_whole(path, at)
+
+
 def records_of(archive, after, key, state=None):
     """The records after entry `after`, in order, each checked. The archive is opened by whoever owns the replica's folder."""
     last = None
     try:
-        for line in as_owner(state or archive.parent, lambda: (line for _, line, _ in entries.whole_lines(archive, after, None, 0))):
+        for line in as_owner(state or archive.parent, lambda: lines_of(archive, after)):
             n = entries.number_in(line)
             if n < after:
                 continue

@@ -22,6 +22,7 @@ import replica_copies
 import replica_place
 import replica_rows
 import replica_undo
+from house import Country
 from house import House
 
 GOO = str(Path(loopback.program()).resolve())
@@ -535,12 +536,9 @@ def put_before(house: House, copy: Path, n: int) -> None:
     part.rmdir()
 
 
-def test_a_wrong_date_is_undone_and_what_came_after_is_sent_again(log_house: House) -> None:
-    """The wrong date expires what is held. One that came after was refused for it, one was not."""
-    house = log_house
-    country = house.make_country()
-    assert house.log_words('copy').returncode == 0
-    copy = newest(house)
+def wrong_date(house: House, country: Country) -> tuple[int, str]:
+    """The number and the body of a wrong date, which expires what is held. Of what came after it
+    one was refused for it, and one was not."""
     held = {'first': f'{country.first:014}', 'last': f'{country.first + 9:014}'}
     transfer = {'command': 'transfer', 'giver': country.sun, 'taker': country.volt, **held}
     house.enter('SUN', **transfer | {'key': 'before'})
@@ -556,8 +554,20 @@ def test_a_wrong_date_is_undone_and_what_came_after_is_sent_again(log_house: Hou
                               user='anna', address='192.0.2.9').status
                 for caller, request in later]
     assert outcomes == [200, 409, 409]
-    before = (house.state / 'archive').glob('*')
-    whole = {path.name: path.read_bytes() for path in before}
+    return n, wrong
+
+
+def files_of(folder: Path) -> dict[str, bytes]:
+    return {path.name: path.read_bytes() for path in folder.iterdir()}
+
+
+def test_a_wrong_date_is_undone_and_what_came_after_is_sent_again(log_house: House) -> None:
+    house = log_house
+    country = house.make_country()
+    assert house.log_words('copy').returncode == 0
+    copy = newest(house)
+    n, wrong = wrong_date(house, country)
+    whole = files_of(house.state / 'archive')
     house.stop('log')
     house.stop('registry')
     put_before(house, copy, n)
@@ -565,7 +575,7 @@ def test_a_wrong_date_is_undone_and_what_came_after_is_sent_again(log_house: Hou
         done = house.log_words('undo', n)
         assert done.returncode == 0, done
     [folder] = house.state.glob('undone-*')
-    assert {path.name: path.read_bytes() for path in (folder / 'archive').iterdir()} == whole
+    assert files_of(folder / 'archive') == whole
     house.start('registry')
     house.start('log')
     done = house.log_words('again', n)
@@ -575,16 +585,21 @@ def test_a_wrong_date_is_undone_and_what_came_after_is_sent_again(log_house: Hou
     assert re.match(rf'entry {n + 2}, now entry {n + 2}: anna as VOLT, transfer back: was 409 '
                     r'.*"NotHeld".*, is 200 \{"outcome":"accepted"', told[0]), told[0]
     assert 'advance day: was 409' in told[1] and 'is 200' in told[1]
-    audit = house.ask_log('ISSUER', 'GET', f'/v1/accounts/{country.sun}/statement').text
-    assert 'date 2025-03-02' in audit and 'expired 0' in audit and 'held 100' in audit
+    undone_holds(house, country, n, wrong)
+
+
+def undone_holds(house: House, country: Country, n: int, wrong: str) -> None:
+    """The registry is what it would be without the wrong date, and all of its records hold."""
+    statement = house.ask_log('ISSUER', 'GET', f'/v1/accounts/{country.sun}/statement').text
+    assert 'date 2025-03-02' in statement and 'expired 0' in statement and 'held 100' in statement
     again = house.ask_log('ISSUER', 'POST', '/v1/requests', wrong)
     assert again.status == 500 and house.entry() == n + 3
-    verified = house.log_words('verify', '--from', copy)
+    verified = house.log_words('verify', '--from', newest(house))
     assert verified.returncode == 0 and f'entries 1 to {n + 3}: ' in verified.stdout, verified
     assert house.log_words('copy').returncode == 0
     assert house.log_words('undo', n).returncode == 1       # a replica runs
-    entry = next(entries.read_archive(house.state / 'archive', n))
-    assert (entry.entry.user, entry.entry.address) == ('anna', '192.0.2.9')
+    entry = next(entries.read_archive(house.state / 'archive', n)).entry
+    assert (entry.user, entry.address) == ('anna', '192.0.2.9')
 
 
 @pytest.mark.parametrize('last', [1, 2, 5])
@@ -630,9 +645,25 @@ def line_after(point: replica_undo.Point) -> bytes:
 
 # ------------------------------------------------------------------ where the book begins
 
+def first_copy(folder: Path, db: Path) -> None:
+    """The first copy of a log, with the folders of a host below one folder."""
+    program = Path(replica_copies.__file__).with_name('replica-log')
+    done = subprocess.run(
+        [program, 'first-copy', *words_below(folder, db)], capture_output=True, text=True,
+        check=False, env={**os.environ, 'GOO_BOOK': str(folder / 'book'),
+                          'GOO_CONFIGURATION': str(folder / 'conf'), 'GOO_EXCHANGE': '/nowhere'})
+    assert done.returncode == 0 and Path(done.stdout.strip()).is_dir(), done
+    time.sleep(1)                               # the names of copies are of a second
+
+
+def words_below(folder: Path, db: Path) -> list[object]:
+    return ['--state', folder / 'state', '--key', folder / 'key', '--copies', folder / 'copies',
+            '--goo', GOO, '--db', db]
+
+
 def test_a_log_begun_over_a_registry_places_the_beginning_of_the_book(
         db: Path, tmp_path: Path) -> None:
-    """The first copy of a new log, with the records' folder of another user; then a log goes on."""
+    """Over an empty registry, over one with requests, and once the log has gone on."""
     state, book, conf = (tmp_path / name for name in ('state', 'book', 'conf'))
     for folder in (state, book, conf, tmp_path / 'copies'):
         folder.mkdir()
@@ -640,34 +671,21 @@ def test_a_log_begun_over_a_registry_places_the_beginning_of_the_book(
         folder.chmod(0o755)
     if os.geteuid() == 0:
         os.chown(book, NOBODY, NOBODY)
-    (conf / 'records.conf').write_text('GOO_RECORDS_BEGIN=--begun 7 2025-03-01 1\n')
+    told = conf / 'records.conf'
+    told.write_text('GOO_RECORDS_BEGIN=--begun 7 2025-03-01 1\n')
     (tmp_path / 'key').write_bytes(KEY)
-    words = ['--state', state, '--key', tmp_path / 'key', '--copies', tmp_path / 'copies', '--goo',
-             GOO, '--db', db]
-
-    def first_copy() -> None:
-        done = subprocess.run(
-            [Path(replica_copies.__file__).with_name('replica-log'), 'first-copy', *words],
-            capture_output=True, text=True, check=False,
-            env={**os.environ, 'GOO_BOOK': str(book), 'GOO_CONFIGURATION': str(conf),
-                 'GOO_EXCHANGE': '/nowhere'})
-        assert done.returncode == 0 and Path(done.stdout.strip()).is_dir(), done
-        time.sleep(1)
-    replica_log('found', *words, check=True)
-    first_copy()
-    assert '--begun 7 2025-03-01 1' in (conf / 'records.conf').read_text()
+    replica_log('found', *words_below(tmp_path, db), check=True)
+    first_copy(tmp_path, db)
+    assert '--begun 7 2025-03-01 1' in told.read_text()
     run_on(db, opened_holder(1))
-    first_copy()
-    assert (conf / 'records.conf').read_text().endswith(
-        f'\nGOO_RECORDS_BEGIN=--copy {book}/first --after 0\n')
+    first_copy(tmp_path, db)
+    assert told.read_text().endswith(f'\nGOO_RECORDS_BEGIN=--copy {book}/first --after 0\n')
     assert rows(book / 'first/registry.db') == rows(db)
     assert [path.name for path in (book / 'first').iterdir()] == ['registry.db']
-    if os.geteuid() == 0:
-        assert (book / 'first/registry.db').stat().st_uid == NOBODY
-    (conf / 'records.conf').write_text('as it was\n')
-    log = entries.Archive(state / 'archive')
-    entry = entries.read_entry(line_after(replica_undo.Point(0, 'f' * 64, '-')))
-    log.add(line_after(replica_undo.Point(0, 'f' * 64, '-')), entry,
-            entries.decided('', 200, b'', entries.NO_CHAIN))
-    first_copy()
-    assert (conf / 'records.conf').read_text() == 'as it was\n'
+    assert os.geteuid() != 0 or (book / 'first/registry.db').stat().st_uid == NOBODY
+    told.write_text('as it was\n')
+    line = line_after(replica_undo.Point(0, 'f' * 64, '-'))
+    outcome = entries.decided('', 200, b'', entries.NO_CHAIN)
+    entries.Archive(state / 'archive').add(line, entries.read_entry(line), outcome)
+    first_copy(tmp_path, db)
+    assert told.read_text() == 'as it was\n'
