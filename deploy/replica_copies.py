@@ -217,9 +217,10 @@ def hold_against(live, replayed, n, before):
     found = list(differences(live / "registry.db", replayed / "registry.db", ("the live file", "the log")))
     if not found:
         return
-    kept = live.with_name(f"differs-{copies.name_now()}")
     for old in sorted(live.parent.glob("differs-*"))[1:]:
         shutil.rmtree(old)                              # the first one and the last one stay
+    while (kept := live.with_name(f"differs-{copies.name_now()}")).exists():
+        time.sleep(0.2)
     kept.mkdir(mode=0o700)
     (kept / "differences.txt").write_text("".join(f"{one.told()}\n" for one in found))
     live.rename(kept / "live")
