@@ -149,6 +149,7 @@ def reported(*hosts):
 
 def pruned(cluster, work):
     one, two, three = cluster.hosts
+    reported(*cluster.hosts)
     three.hold("replica")
     behind = some(work, 30, 0, "prune")
     one.hold("replica"), one.hold("goo")
