@@ -1,10 +1,11 @@
 """How the book of acts keeps what an act moved: few rows, however many lots a range goes through.
 
-A transfer names one range of numbers, and the range may go through thousands of lots. A row for each
-lot would make the book larger by a thousand times what was sent, as often as a holder moves the range
-back and forth. Numbers of this registry's own lots follow each other as the lots do. So a part of a
-range that has whole lots only is one row, which names the first and the last of these lots; what the
-range has of the lots at its two ends is a row each. Which certificates each lot has is in the lots.
+A transfer names one range of numbers, and the range may go through thousands of lots. A row for
+each lot would make the book larger by a thousand times what was sent, as often as a holder moves
+the range back and forth. Numbers of this registry's own lots follow each other as the lots do. So
+a part of a range that has whole lots only is one row, which names the first and the last of these
+lots; what the range has of the lots at its two ends is a row each. Which certificates each lot has
+is in the lots.
 """
 from collections.abc import Iterable
 from collections.abc import Iterator
