@@ -293,13 +293,18 @@ def act(database, viewer, number):
     return told(database, viewer, found[0], None)
 
 
+BY_LOT = 'CROSS JOIN lot ON lot.id BETWEEN moved.lot AND moved.to_lot AND (moved.lot = moved.to_lot OR lot.begin BETWEEN moved.first AND moved.last)'
+FIRST, LAST = (f'CASE WHEN moved.lot = moved.to_lot THEN moved.{end} ELSE lot.{of} END' for end, of in (('first', 'begin'), ('last', 'finish')))
+"""What was moved, lot by lot: a row of `moved` may go through many lots, and has all certificates of them then (records_moves.py)."""
+
+
 def told(database, viewer, row, most):
     """An act as the viewer may see it: his own ranges, the user on his own side alone, names beside accounts."""
     if not viewer.sees_all and row['caller'] != viewer.caller:
         row = {**row, **dict.fromkeys(OWN_ALONE)}
     own_from, own_to = viewer.of_accounts('moved.from_account'), viewer.of_accounts('moved.account')
-    ranges = rows(database, f'''SELECT moved.first, moved.last, moved.last - moved.first + 1 AS count, moved.lot, moved.account, moved.from_account, PLACE(moved.kind) AS place FROM moved
-                                WHERE moved.act = ? AND ({own_from[0]} OR {own_to[0]}) ORDER BY moved.first''', (row['id'], *own_from[1], *own_to[1]))
+    ranges = rows(database, f'''SELECT {FIRST} AS first, {LAST} AS last, {LAST} - {FIRST} + 1 AS count, lot.id AS lot, moved.account, moved.from_account, PLACE(moved.kind) AS place FROM moved {BY_LOT}
+                                WHERE moved.act = ? AND ({own_from[0]} OR {own_to[0]}) ORDER BY moved.first, lot.id''', (row['id'], *own_from[1], *own_to[1]))
     parties = {name: row[name] and party(database, row[name]) or None for name in ('giver', 'taker')}
     longest = joined(ranges)
     return {**row, **parties, 'count': sum(span['count'] for span in ranges), 'ranges': longest[:most], 'ranges_in_all': len(longest)}
@@ -335,7 +340,8 @@ def certificate(database, viewer, number):
     seen, seen_values = viewer.of_acts()
     offset, lot = number - found[0].pop('begin'), found[0]['lot']
     life = rows(database, f'''SELECT act.* FROM passed JOIN moved ON moved.id = passed.id JOIN act ON act.id = moved.act
-                               WHERE passed.lot <= ? AND passed.to_lot >= ? AND passed.first <= ? AND passed.last >= ? AND {seen} ORDER BY act.id''', (lot, lot, offset, offset, *seen_values))
+                               WHERE passed.lot <= ? AND passed.to_lot >= ? AND passed.first <= ? AND passed.last >= ? AND ? BETWEEN moved.first AND moved.last AND {seen}
+                               ORDER BY act.id''', (lot, lot, offset, offset, number, *seen_values))
     return {'number': f'{number:014}', **found[0], 'holder': party(database, found[0]['account']), 'life': [told(database, viewer, row, 1) for row in life]}
 
 
@@ -475,9 +481,9 @@ def statistics(database, viewer, asked):
     conditions = Conditions(viewer.of_accounts('moved.account'), (f"moved.kind <> {HELD} OR act.kind IN ('issue', 'import')", ()))
     conditions.add_given({'from': 'act.day >= ?', 'to': 'act.day <= ?', **{name: LOT_FILTERS[name] for name in ('tech', 'source', 'carrier', 'country', 'device')}}, asked)
     columns = ', '.join(f'{BY[name]} AS {name}' for name in by)
-    sums = ', '.join(f'sum(CASE WHEN {test} THEN moved.last - moved.first + 1 ELSE 0 END) AS {name}' for name, test in FLOWS.items())
+    sums = ', '.join(f'sum(CASE WHEN {test} THEN {LAST} - {FIRST} + 1 ELSE 0 END) AS {name}' for name, test in FLOWS.items())
     places = ', '.join(map(str, range(1, len(by) + 1)))
-    return paged(asked, database, f'SELECT {columns}, {sums} FROM moved JOIN act ON act.id = moved.act JOIN lot ON lot.id = moved.lot WHERE {conditions.where} GROUP BY {places} ORDER BY {places}', conditions.values)
+    return paged(asked, database, f'SELECT {columns}, {sums} FROM moved CROSS JOIN act ON act.id = moved.act {BY_LOT} WHERE {conditions.where} GROUP BY {places} ORDER BY {places}', conditions.values)
 
 
 # -------------------------------------------------------------------- documents of cancellations

@@ -9,6 +9,7 @@ import json
 import re
 import sqlite3
 
+import records_moves
 import records_rows
 import replica_roles
 import rules
@@ -23,9 +24,9 @@ CREATE TABLE act (id INTEGER PRIMARY KEY, entry INTEGER NOT NULL, line INTEGER N
 CREATE INDEX act_by_key ON act (key);
 CREATE TABLE seen (viewer TEXT, act INTEGER, PRIMARY KEY (viewer, act)) STRICT, WITHOUT ROWID;
 CREATE TABLE touched (account INTEGER, act INTEGER, PRIMARY KEY (account, act)) STRICT, WITHOUT ROWID;
-CREATE TABLE moved (id INTEGER PRIMARY KEY, act INTEGER, first INTEGER, last INTEGER, lot INTEGER, kind INTEGER, account INTEGER, from_kind INTEGER, from_account INTEGER) STRICT;
+CREATE TABLE moved (id INTEGER PRIMARY KEY, act INTEGER, first INTEGER, last INTEGER, lot INTEGER, to_lot INTEGER, kind INTEGER, account INTEGER, from_kind INTEGER, from_account INTEGER) STRICT;
 CREATE VIRTUAL TABLE passed USING rtree_i32 (id, first, last, lot, to_lot);
-CREATE TABLE lot (id INTEGER PRIMARY KEY, {', '.join(f'{member} {"INTEGER" if member in ("origin", "capacity_w") else "TEXT"}' for member in LOT)}, trade_until TEXT, expires_on TEXT, begin INTEGER,
+CREATE TABLE lot (id INTEGER PRIMARY KEY, {', '.join(f'{member} {"INTEGER" if member in ("origin", "capacity_w") else "TEXT"}' for member in LOT)}, trade_until TEXT, expires_on TEXT, begin INTEGER, finish INTEGER,
                   UNIQUE (origin, device, first_day)) STRICT;
 CREATE TABLE run (first INTEGER PRIMARY KEY, last INTEGER NOT NULL, lot INTEGER NOT NULL, kind INTEGER NOT NULL, account INTEGER NOT NULL, number INTEGER NOT NULL) STRICT;
 CREATE TABLE holder (code TEXT PRIMARY KEY, name TEXT NOT NULL, act INTEGER NOT NULL) STRICT;
@@ -339,22 +340,28 @@ class Book:
 
     def move(self, act, changes):
         """Writes the ranges that an act moved."""
-        for first, last, lot, old, new in changes:
-            known = self.lot(lot, first)
-            giver = old.account if old and old.kind != EXPORTED else None      # whoever exported it has no part in its return
+        for part in records_moves.rows(self.part(*change) for change in changes):
             self.moves, self.waiting = self.moves + 1, self.waiting + 1
-            self.insert('moved', self.moves, act, first, last, known, new.kind, new.account, old and old.kind, giver)
-            begin = self.begins[known]
-            self.insert('passed', self.moves, first - begin, last - begin, known, known)
-            for account in {new.account, giver} - {None}:
-                self.touch(account, act)
+            _, account, _, giver = part.way
+            self.insert('moved', self.moves, act, part.first, part.last, part.lot, part.to_lot, *part.way)
+            begin = self.begins[part.lot]
+            offsets = (part.first - begin, part.last - begin) if part.lot == part.to_lot else (0, MOST_OFFSET)
+            self.insert('passed', self.moves, *offsets, part.lot, part.to_lot)
+            for touched in {account, giver} - {None}:
+                self.touch(touched, act)
 
-    def lot(self, lot, first):
-        """The number of a lot, which is written where it is new, with a number of a certificate that offsets in the lot are counted from."""
+    def part(self, first, last, lot, old, new):
+        """Certificates of one lot that changed their place. Whoever exported them has no part in their return."""
+        known = self.lot(lot, first, last)
+        way = new.kind, new.account, old and old.kind, old.account if old and old.kind != EXPORTED else None
+        return records_moves.Part(first, last, known, known, lot.origin == self.registry.code, way)
+
+    def lot(self, lot, first, last):
+        """The number of a lot, which is written where it is new, with the numbers of the certificates that were the first of it: of an own lot these are all. Offsets in it are counted from the first."""
         if lot.key not in self.lots:
             self.lots[lot.key] = known = len(self.lots) + 1
             self.begins[known] = first
-            self.insert('lot', known, *lot, months_after(lot.last_day, 12), lot.expires_on, first)
+            self.insert('lot', known, *lot, months_after(lot.last_day, 12), lot.expires_on, first, last)
         return self.lots[lot.key]
 
     # ---------------------------------------------------------------- what commands leave besides
@@ -413,6 +420,8 @@ class Book:
         self.insert('notice', 0, notice['sender'], notice['number'], notice['account'], None, answer[1], self.registry.today, act)
 
 
+MOST_OFFSET = 2 ** 31 - 1
+"""The largest number of the index of what certificates went through."""
 NUMBERED = ('open_account', 'cancel', 'withdraw', 'export')
 """Commands whose answer begins with the number that they took."""
 LEFT = {'open_holder': Book.left_holder, 'open_account': Book.left_account, 'close_account': Book.left_closing, 'register_device': Book.left_device, 'declare': Book.left_declaration,

@@ -1,7 +1,10 @@
 """The book of acts: whatever a user may send leaves a book, in proportion to what was sent."""
+import collections
+import datetime
 import random
 import threading
 from pathlib import Path
+from typing import Any
 
 import pytest
 import readings
@@ -9,9 +12,12 @@ import records_rows
 import tables
 from made_book import DEVICE
 from made_book import HEADER
+from made_book import OWN
 from made_book import PLANT
 from made_book import Made
 from mutations import gsrn
+from mutations import lot
+from mutations import part
 from records_queue import Ahead
 from rules import ISSUER
 
@@ -136,6 +142,125 @@ def test_lines_of_one_act_are_few(made: Made) -> None:
     for act in made.acts(entry=made.last):
         assert act['rows'] == 300
         assert act['lines'].count(',') == records_rows.SPANS - 1
+
+
+# ------------------------------------------------------------ what a range through many lots leaves
+
+DAYS = [datetime.date(2025, 2, 1) + datetime.timedelta(at) for at in range(300)]
+LOTS = [(OWN + 301 + 2 * at, OWN + 302 + 2 * at) for at in range(len(DAYS))]
+"""Each day's two certificates of OTHER."""
+FOREIGN = 9 * 10 ** 12 + 1
+"""A certificate of another registry, which came while these were issued."""
+
+
+@pytest.fixture
+def many(made: Made) -> Made:
+    """The same with a device that declares each day, so that each two numbers are a lot."""
+    made.must(ISSUER, 'register_device', **{**PLANT, 'device': OTHER})
+    made.must(ISSUER, 'add_peer', peer=9)
+    came = part(FOREIGN, 5, lot(9, gsrn(99), '2025-06-01', '2025-06-30', issued_on='2025-07-02'))
+    notice = {'sender': 9, 'addressee': 7, 'number': 1, 'account': 1, 'version': 1, 'parts': [came]}
+    for day in DAYS:
+        if day == DAYS[150]:
+            made.must(ISSUER, 'import', notice=notice)
+        made.must(ISSUER, 'declare', device=OTHER, first_day=day.isoformat(), gross_wh=2_000_000,
+                  last_day=day.isoformat(), aux_wh=0)
+    return made
+
+
+def transfer(made: Made, giver: int, first: int, last: int) -> dict[str, Any]:
+    made.must(('SUN', 'VOLT')[giver - 1], 'transfer', giver=giver, taker=3 - giver,
+              first=f'{first:014}', last=f'{last:014}')
+    return dict(made.asked(ISSUER, f'/records/v1/acts/{made.writer.acts}')[1])
+
+
+def there_and_back(made: Made) -> None:
+    for _ in range(20):
+        for giver in (1, 2):
+            made.must(('SUN', 'VOLT')[giver - 1], 'transfer', giver=giver, taker=3 - giver,
+                      first=f'{LOTS[0][0]:014}', last=f'{LOTS[-1][1]:014}')
+
+
+def test_a_range_through_many_lots_leaves_little(many: Made) -> None:
+    assert grown(many, lambda: there_and_back(many)) < 40 * 2_000
+
+
+@pytest.mark.parametrize(('first', 'last'), [
+    (LOTS[0][0], LOTS[-1][1]), (LOTS[0][1], LOTS[-1][0]), (LOTS[7][1], LOTS[9][0]),
+    (LOTS[7][1], LOTS[10][0]), (LOTS[7][0], LOTS[8][1]), (LOTS[5][0], LOTS[5][0]),
+    (OWN + 290, LOTS[40][0])])
+def test_an_act_has_the_ranges_of_each_lot(many: Made, first: int, last: int) -> None:
+    act = transfer(many, 1, first, last)
+    december = [(OWN + 201, OWN + 300)]
+    wanted = [(max(first, begin), min(last, end)) for begin, end in december + LOTS
+              if begin <= last and end >= first]
+    shown = [(int(span['first']), int(span['last']), span['count']) for span in act['ranges']]
+    assert shown == [(begin, end, end - begin + 1) for begin, end in wanted]
+    assert (act['count'], act['ranges_in_all']) == (last - first + 1, len(wanted))
+    listed = many.acts()[0]
+    assert (listed['count'], listed['ranges_in_all']) == (act['count'], len(wanted))
+    assert listed['ranges'] == act['ranges'][:20]
+
+
+def test_each_certificate_has_its_own_life(many: Made) -> None:
+    spans = [(LOTS[0][1], LOTS[-1][0]), (LOTS[3][0], LOTS[200][1]), (LOTS[50][1], LOTS[50][1])]
+    givers = (1, 2, 1)
+    acts = [transfer(many, giver, *span)['id'] for giver, span in zip(givers, spans)]
+    numbers = {number for at in (0, 1, 2, 3, 4, 49, 50, 51, 200, 201, 298, 299)
+               for number in LOTS[at]}
+    for number in sorted(numbers):
+        life = many.asked(ISSUER, f'/records/v1/certificates/{number}')[1]['life']
+        wanted = [act for act, (first, last) in zip(acts, spans) if first <= number <= last]
+        assert [act['id'] for act in life if act['kind'] == 'transfer'] == wanted
+        assert life[0]['kind'] == 'issue'
+    foreign = many.asked(ISSUER, f'/records/v1/certificates/{FOREIGN}')[1]['life']
+    assert [act['kind'] for act in foreign] == ['import']
+
+
+def foreign_part(first: int, month: int) -> dict[str, Any]:
+    """Two certificates of a lot of that month, of another registry."""
+    of = lot(9, gsrn(98), f'2025-{month:02}-01', f'2025-{month:02}-28', issued_on='2026-01-02')
+    return dict(part(FOREIGN + first, 2, of))
+
+
+def test_foreign_lots_that_came_in_parts_are_told_one_by_one(many: Made) -> None:
+    for number, parts in enumerate([[(100, 6), (200, 7), (300, 8), (400, 9), (500, 10)],
+                                    [(20, 6), (22, 7), (24, 8), (26, 9), (28, 10)]], 2):
+        notice = {'sender': 9, 'addressee': 7, 'number': number, 'account': 1, 'version': 1,
+                  'parts': [foreign_part(*one) for one in parts]}
+        many.must(ISSUER, 'import', notice=notice)
+    act = transfer(many, 1, FOREIGN + 20, FOREIGN + 29)
+    assert [int(span['first']) - FOREIGN for span in act['ranges']] == [20, 22, 24, 26, 28]
+    assert len({span['lot'] for span in act['ranges']}) == 5
+    for number, kinds in ((21, 2), (25, 2), (101, 1), (301, 1)):
+        life = many.asked(ISSUER, f'/records/v1/certificates/{FOREIGN + number}')[1]['life']
+        assert len(life) == kinds
+
+
+def test_each_account_has_its_part_of_a_range(many: Made) -> None:
+    """A withdrawal goes over the accounts of two holders: each sees what it took of him."""
+    transfer(many, 1, LOTS[20][0], LOTS[29][1])
+    many.must(ISSUER, 'withdraw', first=f'{LOTS[10][0]:014}', last=f'{LOTS[39][1]:014}',
+              reason='meter read twice')
+    number = many.writer.acts
+    for viewer, lots in (('VOLT', range(20, 30)), (ISSUER, range(10, 40)),
+                         ('SUN', [*range(10, 20), *range(30, 40)])):
+        act = many.asked(viewer, f'/records/v1/acts/{number}')[1]
+        assert [int(span['first']) for span in act['ranges']] == [LOTS[at][0] for at in lots]
+        whole, = many.items(viewer, 'withdrawals')
+        assert whole['count'] == 2 * len(lots)
+
+
+def test_statistics_are_of_each_lot(many: Made) -> None:
+    first, last = LOTS[10][1], LOTS[99][0]
+    many.must('SUN', 'cancel', account=1, first=f'{first:014}', last=f'{last:014}',
+              beneficiary='Rathaus', use_first='2025-01-01', use_last='2025-12-31')
+    months = collections.Counter(
+        DAYS[at].isoformat()[:7] for at, numbers in enumerate(LOTS) for number in numbers
+        if first <= number <= last)
+    told = {row['production']: row['cancelled']
+            for row in many.items(ISSUER, 'statistics', by='production') if row['cancelled']}
+    assert told == months
 
 
 # ------------------------------------------------------------ requests of any bytes
