@@ -49,8 +49,12 @@ OTHERS = ('goo-records.service', 'goo-records-web.service', 'goo-records-verify.
           'goo-ship.service')
 PATIENCE, STARTS = 900, 3
 """Seconds for the registry to read its file, and starts after which it is no use waiting."""
-MADE = 'd=$(mktemp -d); trap "rm -rf $d" EXIT; goo init --db "$d/r.db" --code 1 --today 2025-01-01' \
-       ' && sqlite3 -init /dev/null -batch "$d/r.db" "SELECT version FROM meta"'
+MADE = '''
+folder=$(mktemp -d)
+trap 'rm -rf "$folder"' EXIT
+goo init --db "$folder/made.db" --code 1 --today 2025-01-01 > /dev/null
+sqlite3 -init /dev/null -batch "$folder/made.db" 'SELECT version FROM meta'
+'''
 """Prints the version of the tables that the program makes, by a registry that goes at once."""
 
 

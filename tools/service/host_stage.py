@@ -82,7 +82,9 @@ GOO = r'''#!/bin/bash
 words="$*" db=${words#*--db } db=${db%% *}
 case $1 in
     --version) echo "goo VERSION" ;;
-    init) WAITS sqlite3 "$db" "CREATE TABLE meta (version, code); INSERT INTO meta VALUES (TABLES, 7)" ;;
+    init)
+        WAITS sqlite3 "$db" "CREATE TABLE meta (version, code); INSERT INTO meta VALUES (TABLES, 7)"
+        echo "ready 07" ;;
     run)
         echo run >> /run/stage/openings
         found=$(sqlite3 "$db" 'SELECT version FROM meta')

@@ -290,12 +290,63 @@ def test_a_set_up_that_is_ended_half_way_leaves_what_ran(registry: Stage, number
     assert version(registry) == 'goo 1.1.0'
 
 
+def test_what_around_the_registry_refuses_the_new_version_is_told(registry: Stage) -> None:
+    registry.shell('systemctl start nginx.service')
+    registry.put('/etc/nginx/conf.d/broken.conf', 'no such word;\n')
+    registry.put('/etc/goo/callers', 'office ISSUER\n')
+    unpack(registry)
+    done = configure(registry)
+    registry.shell('rm /etc/nginx/conf.d/broken.conf')
+    assert done.status != 0 and 'nginx -t' in done.err, done
+    assert version(registry) == 'goo 1.1.0' and is_well(registry), 'the registry itself went over'
+    assert registry.run('stat', '-c', '%a', '/etc/goo/callers').out == '640\n'
+    done = configure(registry)
+    assert done.status == 0, done
+
+
 def test_a_host_of_three_waits_for_its_renewal(registry: Stage) -> None:
     registry.put('/etc/goo/replica.env', 'REPLICA_WORDS=--name h1 --code 7 --etcd https://192.0.2.1:2379\n')
     unpack(registry)
     done = configure(registry)
     assert done.status == 0 and 'goo-setup renew' in done.out, done
     assert registry.lines('/run/stage/openings') == []
+
+
+# ------------------------------------------------------------------ the set-up
+
+@pytest.mark.parametrize(('words', 'lacks'), [('', "the host's name"),
+                                              ('--name a.example --self-signed', 'the first user')])
+def test_a_set_up_that_nobody_answers_says_what_it_lacks(stage: Stage, words: str, lacks: str) -> None:
+    done = stage.run('sh', '-c', f'exec goo-setup {words} < /dev/null')
+    assert done.status == 1 and 'Traceback' not in done.err, done
+    assert f'goo-setup: {lacks}' in done.err and 'was not given' in done.err, done
+
+
+def test_a_host_that_joins_has_what_the_first_one_packed(stage: Stage) -> None:
+    owners = {'/var/lib/goo': 'goo', '/var/lib/goo-replica': 'goo-replica', '/var/lib/goo-records/first': 'goo-records'}
+    for folder, user in owners.items():
+        stage.shell(f'setpriv --reuid={user} --regid={user} --clear-groups sh -ec "mkdir -p {folder}/archive {folder}/log;'
+                    f' echo {user} > {folder}/archive/kept; echo x > {folder}/log/left; chmod 600 {folder}/archive/kept"')
+    done = stage.python(PACKED)
+    assert done.status == 0, done
+    for folder, user in owners.items():
+        assert stage.text(f'{folder}/archive/kept') == f'{user}\n'
+        assert stage.run('stat', '-c', '%U %G %a', f'{folder}/archive/kept').out == f'{user} {user} 600\n'
+        assert stage.run('ls', f'{folder}/log').status != 0, 'the log of the first host stays there'
+
+
+PACKED = '''
+import pathlib, setup_common, setup_hosts
+root = pathlib.Path('/run/stage/packed')
+root.mkdir()
+for name, (folder, user) in setup_hosts.THEIR_FOLDERS.items():
+    setup_hosts.pack_folder(folder, user, root / name)
+setup_common.run('tar', '--create', '--file', root / 'all', '--directory', root, *setup_hosts.THEIR_FOLDERS)
+setup_common.run('sh', '-ec', 'rm -rf /var/lib/goo/* /var/lib/goo-replica/* /var/lib/goo-records/*')
+for name, (folder, user) in setup_hosts.THEIR_FOLDERS.items():
+    setup_hosts.unpack_folder(root / 'all', name, folder, user)
+'''
+"""Packs the folders of the services on a first host, and unpacks them as on one that joins."""
 
 
 # ------------------------------------------------------------------ what root must not touch
