@@ -374,7 +374,7 @@ def test_file_of_passwords_is_shown_to_nobody(place: Place) -> None:
         for name, path in BEHIND.items():
             Standin(own.dir / name, shown).may_answer.set()
             assert ask(own, 'GET', path, 'anna').body == b'{"own":1}\n'
-    for path in ('/users', '/compare', '/sign-in', '/decoy', '/told'):
+    for path in ('/users', '/compare-sign-in', '/sign-in', '/decoy', '/told'):
         assert ask(place, 'GET', path, 'anna').status == 404
 
 
