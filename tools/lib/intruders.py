@@ -431,7 +431,7 @@ def watches(tally, place):
     out = run(str(1 << 30))
     tally.check('the log beside it counts', out.returncode == 1, out)
     with open(file, 'wb') as large:
-        large.truncate(1 << 50)
+        large.truncate(shutil.disk_usage(place.dir).free + (1 << 30))       # no file system holds a file of any size
     out = run('infinity')
     tally.check('a file that leaves no room for its copy: status 1', out.returncode == 1 and 'free' in out.stderr, out)
     file.unlink()

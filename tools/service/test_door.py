@@ -254,7 +254,12 @@ def test_wrong_password_is_wrong_beside_a_right_one() -> None:
     with Place(rate=FAST, cost=4) as place:
         assert statuses(place, 1, 'anna') + statuses(place, 2, 'anna', 'pw-bela') == [404, 401, 401]
         assert statuses(place, 1, 'anna') + statuses(place, 1, 'bela', 'pw-anna') == [404, 401]
-        for word in ('Basic', 'Basic !', 'Bearer pw-anna', f'basic{client.basic("anna", "pw-anna")}'):
+        for word in (
+            'Basic',
+            'Basic !',
+            'Bearer pw-anna',
+            f'basic{client.basic("anna", "pw-anna")}',
+        ):
             assert ask(place, 'GET', '/', Authorization=word).status == 401
         assert ask(place, 'GET', '/').status == 401
 
@@ -355,16 +360,21 @@ def test_kept_sign_ins_are_for_nginx_alone(place: Place) -> None:
     assert {oct(path.stat().st_mode & 0o777) for path in kept} == {'0o600'}
 
 
+BEHIND = {
+    'door.sock': '/v1/certificates/1',
+    'web.sock': '/records/v1/acts',
+    'verify.sock': '/verify?number=1',
+}
+
+
 def test_file_of_passwords_is_shown_to_nobody(place: Place) -> None:
-    """Not even where what stands behind nginx asks for it by X-Accel-Redirect."""
+    """Not even where what stands behind nginx asks for a file of it by X-Accel-Redirect."""
+    shown = answer_of('200 OK', 'X-Accel-Redirect: /users', body=b'{"own":1}\n')
     with Place(rate=FAST, cost=4) as own:
-        for name, path in (('door.sock', '/v1/certificates/1'), ('web.sock', '/records/v1/acts')):
-            behind = Standin(
-                own.dir / name, answer_of('200 OK', 'X-Accel-Redirect: /users', body=b'{"own":1}\n')
-            )
-            behind.may_answer.set()
+        for name, path in BEHIND.items():
+            Standin(own.dir / name, shown).may_answer.set()
             assert ask(own, 'GET', path, 'anna').body == b'{"own":1}\n'
-    for path in ('/users', '/compare', '/sign-in', '/decoy', '/told'):
+    for path in ('/users', '/compare-sign-in', '/sign-in', '/decoy', '/told'):
         assert ask(place, 'GET', path, 'anna').status == 404
 
 

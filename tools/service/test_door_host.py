@@ -18,7 +18,7 @@ from front import ask
 from front import lines_of_log
 from front import request
 from front import sent
-from loopback import HOME
+from house import DEPLOY
 from loopback import Place
 
 
@@ -27,7 +27,7 @@ from loopback import Place
 
 def balanced(place: Place, port: int, without: str = '') -> str:
     """deploy/haproxy with ports of this machine. A place is the first host, nobody the others."""
-    text = (HOME / 'deploy/haproxy/haproxy.cfg').read_text()
+    text = (DEPLOY / 'haproxy/haproxy.cfg').read_text()
     for old, new in (
         ('bind :443', f'bind 127.0.0.1:{port}'),
         ('192.0.2.1:8443', f'127.0.0.1:{place.behind}'),
@@ -133,7 +133,7 @@ def test_an_address_has_so_many_connections_at_the_balancer(through: tuple[Place
 def front_health(place: Place) -> subprocess.CompletedProcess[str]:
     """A run of deploy/front-health over a place."""
     return subprocess.run(
-        [HOME / 'deploy/front-health'],
+        [DEPLOY / 'front-health'],
         env={'PATH': '/usr/bin:/bin', 'GOO_ETC': str(place.etc), 'GOO_FRONT_PORT': str(place.port)},
         capture_output=True,
         text=True,
@@ -159,7 +159,7 @@ def test_health_asks_the_front_door_itself() -> None:
 
 def section(path: str, name: str) -> list[tuple[str, str]]:
     """The settings in one section of a unit or drop-in, in their order."""
-    text = (HOME / path).read_text().partition(f'[{name}]\n')[2].partition('\n[')[0]
+    text = (DEPLOY / path).read_text().partition(f'[{name}]\n')[2].partition('\n[')[0]
     return [
         (key, value)
         for key, _, value in (
@@ -170,16 +170,16 @@ def section(path: str, name: str) -> list[tuple[str, str]]:
 
 
 def test_nginx_is_started_again_and_its_end_is_told() -> None:
-    unit, service = section('deploy/nginx/nginx.service.conf', 'Unit'), section(
-        'deploy/nginx/nginx.service.conf', 'Service'
+    unit, service = section('nginx/nginx.service.conf', 'Unit'), section(
+        'nginx/nginx.service.conf', 'Service'
     )
     assert ('StartLimitIntervalSec', '0') in unit and ('Restart', 'always') in service
     assert any(key == 'ExecStopPost' and 'goo-alarm@%n.service' in value for key, value in service)
-    sockets = set(re.findall(r'listen unix:(\S+);', (HOME / 'deploy/nginx/goo.conf').read_text()))
+    sockets = set(re.findall(r'listen unix:(\S+);', (DEPLOY / 'nginx/goo.conf').read_text()))
     removed = next(value for key, value in service if key == 'ExecStartPre' and 'rm -f' in value)
     assert sockets == set(removed.split()[2:])
     assert ('ExecStart', '/usr/lib/goo/front-health') in section(
-        'deploy/systemd/goo-health.service', 'Service'
+        'systemd/goo-health.service', 'Service'
     )
 
 
@@ -190,7 +190,7 @@ def test_map_of_callers_is_for_root_alone(tmp_path: pathlib.Path) -> None:
     listed, users, made = tmp_path / 'callers', tmp_path / 'users', tmp_path / 'map'
     listed.write_text('anna SUN\n')
     users.write_text('anna:$2y$08$6oKgfgcaPPdrJFmNPb8Vn.zoMilNsYJFKY9NiC9vva1cP3n9xG/2y\n')
-    words = [HOME / 'deploy/callers', '--list', listed, '--users', users, '--map', made]
+    words = [DEPLOY / 'callers', '--list', listed, '--users', users, '--map', made]
     made.write_text('')
     made.chmod(0o644)
     for path in (listed, users):
@@ -212,7 +212,7 @@ def test_log_is_for_root_and_its_group(tmp_path: pathlib.Path) -> None:
         'systemd-tmpfiles',
         '--create',
         f'--root={tmp_path}',
-        HOME / 'deploy/tmpfiles/goo.conf',
+        DEPLOY / 'tmpfiles/goo.conf',
     ]
     subprocess.run(words, check=True, capture_output=True)
     log = tmp_path / 'var/log/goo/front-door.log'

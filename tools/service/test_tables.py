@@ -4,6 +4,7 @@ import subprocess
 from pathlib import Path
 
 import bounds
+from house import DEPLOY
 from loopback import HOME
 
 HEADER = 'key,device,first_day,last_day,gross_wh,aux_wh'
@@ -22,7 +23,7 @@ def table(rows: int) -> str:
 def checked(folder: Path, rows: int) -> subprocess.CompletedProcess[str]:
     file = folder / 'table.csv'
     file.write_text(table(rows))
-    words = [HOME / 'deploy/check-declarations', file]
+    words = [DEPLOY / 'check-declarations', file]
     return subprocess.run(words, capture_output=True, text=True, check=False)
 
 
@@ -43,6 +44,6 @@ def test_page_and_log_have_one_bound() -> None:
 
 def test_nginx_and_log_have_one_bound() -> None:
     """nginx bounds what it takes in before the log sees it. test_door.py sends these sizes."""
-    conf = (HOME / 'deploy/nginx/goo.conf').read_text()
+    conf = (DEPLOY / 'nginx/goo.conf').read_text()
     assert bounds.REQUEST == 65_536 and f'{bounds.REQUEST:,} bytes at most' in conf
     assert bounds.BODY == 1_048_576 and f'{bounds.BODY:,} bytes at most' in conf
