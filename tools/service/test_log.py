@@ -112,6 +112,16 @@ def test_an_unfinished_last_line_is_cut_and_nothing_else(made: Made) -> None:
         assert made.file.read_bytes() == whole[:kept], at
 
 
+@pytest.mark.parametrize('junk', [4096 * b'\0', b'12 and', b'"a" b', b'{} {', b'\xff\xfe'])
+def test_bytes_that_nobody_wrote_are_cut_too(made: Made, junk: bytes) -> None:
+    """A power failure leaves them behind the last line that was synced, or behind a part of one."""
+    whole = made.file.read_bytes()
+    for cut in (0, 40):
+        made.file.write_bytes(whole[:len(whole) - cut] + junk)
+        assert made.open() == (8 if cut else 9)
+        assert made.file.read_bytes() == whole[:whole[:len(whole) - cut].rindex(b'\n') + 1]
+
+
 def test_whole_lines_behind_a_bad_one_and_a_torn_end_stay(made: Made) -> None:
     whole = made.file.read_bytes()
     spoilt = whole.replace(b'"a3', b'"b3', 1).replace(b'\\"a3', b'\\"b3', 1)[:-20]
