@@ -455,9 +455,10 @@ def mended(path, read=read_record, follow=lambda before, now: None):
 def is_more_than_a_line(rest):
     """Whether a whole line and then something else than a line end stands here. A crash leaves a part of a line, and never this."""
     try:
-        return rest[json.JSONDecoder().raw_decode(rest.decode('latin-1'))[1]:][:1] not in (b'', b'\n')
+        end = json.JSONDecoder().raw_decode(rest.decode('latin-1'))[1] if rest.startswith(BEGIN) else len(rest)
     except (ValueError, RecursionError):
         return False
+    return rest[end:end + 1] not in (b'', b'\n')
 
 
 def last_plain(folder):
