@@ -171,10 +171,10 @@ def ailments():
 
 
 def registry_ailments():
-    why, entry = health()
+    stands = book()
+    why, entry = health()                   # after the book: the log may have gone on since, and is never behind it
     if why:
         yield f'the registry takes no requests: {why}', 'journalctl -u goo -u goo-replica -n 50; OPERATING.md, "After a fault"'
-    stands = book()
     today = datetime.date.today().isoformat()
     if not stands:
         yield 'the book of acts does not answer', 'journalctl -u goo-records -u goo-records-web -n 20'

@@ -3,6 +3,7 @@ import datetime
 import functools
 import itertools
 import json
+import os
 import signal
 import subprocess
 import sys
@@ -146,6 +147,8 @@ def test_the_state_of_the_exchange_may_be_read_in_part(tmp_path: Path) -> None:
 
 @pytest.fixture(scope='module')
 def whole_stage() -> Iterator[Stage]:
+    if os.geteuid():
+        pytest.skip('mounts and users of its own, for which it has to run as root')
     with Stage(TOP) as stage:
         yield stage
 
@@ -573,6 +576,20 @@ def test_a_book_of_another_beginning_is_told(book: SimpleNamespace, accounts: in
     book.accounts, book.code = accounts, code
     found = list(setup_report.book_ailments(40, stands))
     assert len(found) == 1 and told in found[0][0] and 'records.conf' in ' '.join(found[0]), found
+
+
+def test_the_book_is_asked_before_the_log(monkeypatch: pytest.MonkeyPatch, book: SimpleNamespace) -> None:
+    """A request that comes between the two makes no fault of it."""
+    state = {'entry': 40}
+
+    def went_on(answer: object) -> object:
+        state['entry'] += 1
+        return answer
+
+    today = datetime.date.today().isoformat()
+    monkeypatch.setattr(setup_report, 'book', lambda: went_on({'entry': state['entry'], 'today': today}))
+    monkeypatch.setattr(setup_report, 'health', lambda: went_on(('', state['entry'])))
+    assert list(setup_report.registry_ailments()) == []
 
 
 def test_what_services_wrote_reaches_no_terminal_as_it_is(capsys: pytest.CaptureFixture[str],
