@@ -2,6 +2,7 @@
 import os
 import signal
 import sys
+import tempfile
 from collections.abc import Iterator
 from pathlib import Path
 
@@ -19,6 +20,16 @@ signal.signal(signal.SIGTERM, signal.default_int_handler)
 """An end from outside ends the houses too: tools/lib/loopback.py would end one test alone by it."""
 hypothesis.settings.register_profile('goo', database=None, deadline=None, print_blob=True)
 hypothesis.settings.load_profile('goo')
+
+
+@pytest.fixture(scope='session', autouse=True)
+def ways(tmp_path_factory: pytest.TempPathFactory) -> None:
+    """A test that runs something as another user has it pass through the folders above its own."""
+    own = tmp_path_factory.getbasetemp()
+    for folder in (own, *own.parents):
+        if folder == Path(tempfile.gettempdir()) or folder.parent == folder:
+            return
+        folder.chmod(folder.stat().st_mode | 0o011)
 
 
 @pytest.fixture(scope='session')
