@@ -8,8 +8,9 @@ import os
 import pwd
 import shutil
 import sqlite3
-from contextlib import closing
+from contextlib import ExitStack, closing
 from pathlib import Path
+from typing import BinaryIO
 
 from copies import open_regular
 from owner import done_as_owner
@@ -17,11 +18,14 @@ from owner import done_as_owner
 USER = 'goo-records'
 BOOK = Path(os.environ.get('GOO_BOOK') or '/var/lib/goo-records')
 FIRST = 'first'
+FILES = ('registry.db', 'place.json')
+"""The files of a copy by which the book is made. Its configuration is not for the user of the records."""
 
 
 def place_beginning(copy: Path, n: int, configuration: Path) -> str:
     """The book begins with a copy of entry n, where records are kept on this host. What was done, in words; nothing where nothing was."""
-    if not configuration.is_dir() or not has_requests(copy / 'registry.db'):
+    told = configuration / 'records.conf'
+    if not configuration.is_dir() or told.exists() and not has_requests(copy / 'registry.db'):
         return ''
     if not BOOK.is_dir():
         try:
@@ -30,12 +34,12 @@ def place_beginning(copy: Path, n: int, configuration: Path) -> str:
             return ''
         BOOK.mkdir(mode=0o750)
         os.chown(BOOK, user.pw_uid, user.pw_gid)
-    with open_regular(copy / 'registry.db') as file:
-        done_as_owner(BOOK, lambda: write_first(file.fileno()))
-    write_whole(configuration / 'records.conf',
-                '# How the book of acts begins (RECORDS.md)\n'
-                f'GOO_RECORDS_BEGIN=--copy {BOOK / FIRST} --after {n}\n')
-    return f'{configuration}/records.conf: the book of acts begins with this copy, after entry {n}'
+    with ExitStack() as stack:
+        files = {name: stack.enter_context(open_regular(copy / name)) for name in FILES}
+        done_as_owner(BOOK, lambda: write_first(files))
+    write_whole(told, '# How the book of acts begins (RECORDS.md)\n'
+                      f'GOO_RECORDS_BEGIN=--copy {BOOK / FIRST} --after {n}\n')
+    return f'{told}: the book of acts begins with this copy, after entry {n}'
 
 
 def has_requests(database: Path) -> bool:
@@ -43,7 +47,7 @@ def has_requests(database: Path) -> bool:
         return bool(connection.execute('SELECT EXISTS (SELECT 1 FROM receipt)').fetchone()[0])
 
 
-def write_first(source: int) -> None:
+def write_first(files: dict[str, BinaryIO]) -> None:
     """As the user of the records: the copy takes the place of the one before, whole."""
     first, part = BOOK / FIRST, BOOK / f'{FIRST}.part'
     for path in (part, first):
@@ -51,10 +55,11 @@ def write_first(source: int) -> None:
             path.unlink()
         shutil.rmtree(path, ignore_errors=True)
     part.mkdir(mode=0o750)
-    with open(source, 'rb', closefd=False) as old, open(part / 'registry.db', 'xb') as new:
-        shutil.copyfileobj(old, new, 1 << 20)
-        new.flush()
-        os.fsync(new.fileno())
+    for name, file in files.items():
+        with open(part / name, 'xb') as new:
+            shutil.copyfileobj(file, new, 1 << 20)
+            new.flush()
+            os.fsync(new.fileno())
     part.rename(first)
 
 

@@ -721,7 +721,7 @@ def test_a_log_begun_over_a_registry_places_the_beginning_of_the_book(
     first_copy(tmp_path, db)
     assert told.read_text().endswith(f'\nGOO_RECORDS_BEGIN=--copy {book}/first --after 0\n')
     assert rows(book / 'first/registry.db') == rows(db)
-    assert [path.name for path in (book / 'first').iterdir()] == ['registry.db']
+    assert {path.name for path in (book / 'first').iterdir()} == {'registry.db', 'place.json'}
     assert os.geteuid() != 0 or (book / 'first/registry.db').stat().st_uid == NOBODY
     told.write_text('as it was\n')
     line = line_after(replica_undo.Point(0, 'f' * 64, '-'))

@@ -403,14 +403,16 @@ for name, (folder, user) in setup_hosts.THEIR_FOLDERS.items():
 END''',
     'the copy for the book': rf'''python3 - <<'END'
 import sys; sys.path.insert(0, '/usr/lib/goo')
-import importlib.machinery, importlib.util, pathlib, setup_common
+import importlib.machinery, importlib.util, pathlib, owner, replica_book
 loader = importlib.machinery.SourceFileLoader('goo_setup', '/usr/lib/goo/goo-setup')
 of = importlib.util.module_from_spec(importlib.util.spec_from_loader('goo_setup', loader))
 loader.exec_module(of)
 of.place_folders()
+etc = pathlib.Path('/etc/goo')
+(etc / 'records.conf').unlink(missing_ok=True)
 try:
-    of.place_book(pathlib.Path('{COPY}'))
-except (setup_common.Refused, OSError) as fault:
+    print(replica_book.place_beginning(pathlib.Path('{COPY}'), 1, etc))
+except (owner.NotDone, OSError) as fault:
     print(fault)
 END''',
 }
