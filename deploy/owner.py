@@ -5,6 +5,7 @@ give away what lies behind it. The owner reaches there no more than he reaches a
 the child opens files, and what it reads comes back through a pipe, as bytes and nothing else.
 """
 import os
+import shutil
 import struct
 import sys
 from collections.abc import Callable, Iterator
@@ -45,6 +46,14 @@ def become_owner_of(folder: Path) -> None:
     """What is left to be done is done as the owner of this folder."""
     if owner := owner_of(folder):
         become(owner)
+
+
+def remove(path: Path) -> None:
+    """Removes what stands at a path: a folder with all in it, or a file, a link, a pipe itself."""
+    if path.is_dir() and not path.is_symlink():
+        shutil.rmtree(path)
+    else:
+        path.unlink(missing_ok=True)
 
 
 def as_owner(folder: Path, work: Callable[[], Iterator[bytes]]) -> Iterator[bytes]:

@@ -13,7 +13,7 @@ from pathlib import Path
 from typing import BinaryIO
 
 from copies import open_regular
-from owner import done_as_owner
+from owner import done_as_owner, remove
 
 USER = 'goo-records'
 BOOK = Path(os.environ.get('GOO_BOOK') or '/var/lib/goo-records')
@@ -43,17 +43,16 @@ def place_beginning(copy: Path, n: int, configuration: Path) -> str:
 
 
 def has_requests(database: Path) -> bool:
+    asked = 'SELECT EXISTS (SELECT 1 FROM receipt)'
     with closing(sqlite3.connect(f'file:{database}?mode=ro&immutable=1', uri=True)) as connection:
-        return bool(connection.execute('SELECT EXISTS (SELECT 1 FROM receipt)').fetchone()[0])
+        return bool(connection.execute(asked).fetchone()[0])
 
 
 def write_first(files: dict[str, BinaryIO]) -> None:
     """As the user of the records: the copy takes the place of the one before, whole."""
     first, part = BOOK / FIRST, BOOK / f'{FIRST}.part'
     for path in (part, first):
-        if path.is_symlink():
-            path.unlink()
-        shutil.rmtree(path, ignore_errors=True)
+        remove(path)
     part.mkdir(mode=0o750)
     for name, file in files.items():
         with open(part / name, 'xb') as new:

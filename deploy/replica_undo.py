@@ -13,7 +13,6 @@ import http.client
 import json
 import os
 import re
-import shutil
 import time
 from collections.abc import Callable
 from collections.abc import Iterator
@@ -24,6 +23,7 @@ import entries
 import replica_file
 import replica_place
 import replica_roles
+from owner import remove
 from replica_hold import Door
 
 UNDONE = re.compile(r'undone-(\d+)-.+')
@@ -121,7 +121,7 @@ def keep(state: Path, n: int) -> Path:
     """The archive and the log as they are, in a folder of their own. It takes no room: the files have two names each."""
     point_before(state / 'archive', n)
     part = state / 'undone.part'
-    shutil.rmtree(part, ignore_errors=True)
+    remove(part)
     for name in ('archive', 'log'):
         (part / name).mkdir(parents=True)
         for path in (state / name).iterdir():
