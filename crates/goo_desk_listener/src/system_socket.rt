@@ -24,6 +24,16 @@ impl<'a> SystemSocket<'a> {
             accepted: 0,
         }
     }
+
+    /// A socket that listens by this one.
+    pub fn over(rt: &'a HostRuntime, socket: TcpListener) -> Self {
+        SystemSocket {
+            rt,
+            socket: Some(socket),
+            at: None,
+            accepted: 0,
+        }
+    }
 }
 
 impl<'a> Socket for SystemSocket<'a> {
