@@ -1,5 +1,6 @@
 //! How long a client may take.
-ghost use Rattle.std.specs.Prelude.{◌≡◌, ◌-◌, ◌+◌, ◌*◌, ◌≤◌, ◌↔◌, max, Some, IfOk, IfSome, IsNone};
+ghost use Rattle.std.specs.Prelude.{◌≡◌, ◌-◌, ◌+◌, ◌*◌, ◌<◌, ◌≤◌, ◌↔◌, max, Some, IfSome, IsNone};
+ghost use Rattle.std.specs.Prelude.{IsSomeAnd};
 ghost use Rattle.std.specs.Duration.{as_nanos};
 ghost use Rattle.std.specs.Time.{instant_nanos};
 
@@ -47,7 +48,27 @@ impl<'a, C: Clock> Deadline<'a, C> {
         Deadline { clock, until: None }
     }
 
-    /// How long the next call may wait. The moment at which time is up is set once.
+    /// How long a call at this moment may wait: until time is up, or what a stream takes as its
+    /// least. `None` where time is up, or the clock counts no further.
+    ///
+    /// - `set`, `first`: time is up ten seconds after the first call, and no later call moves that.
+    fn left_at(&mut self, now: Instant) -> Option<Duration>
+        ensures set { IfSome self.old.until (λ until. self.new.until ≡ Some until) }
+        ensures first { IsNone self.old.until → IfSome self.new.until
+            (λ until. instant_nanos until ≡ instant_nanos now + 10 * 1_000_000_000) }
+        ensures left { IfSome result (λ left. IsSomeAnd self.new.until
+            (λ until. (instant_nanos now < instant_nanos until)
+            × (as_nanos left ≡ max (instant_nanos until - instant_nanos now) 1_000_000))) }
+    {
+        let until = match self.until {
+            Some(until) => until,
+            None => ten_seconds_after(now)?,
+        };
+        self.until = Some(until);
+        time_left(now, until)
+    }
+
+    /// How long the next call may wait, by what the clock tells now.
     ///
     /// # Errors
     ///
@@ -55,20 +76,9 @@ impl<'a, C: Clock> Deadline<'a, C> {
     /// read.
     pub(crate) fn left(&mut self) -> Result<Duration>
         ensures set { IfSome self.old.until (λ until. self.new.until ≡ Some until) }
-        ensures least { IfOk result (λ left. 1_000_000 ≤ as_nanos left) }
     {
         let now = Instant::now(self.clock)?;
-        let until = match self.until {
-            Some(until) => until,
-            None => match ten_seconds_after(now) {
-                Some(until) => until,
-                None => return Err(Error::from(ErrorKind::TimedOut)),
-            },
-        };
-        self.until = Some(until);
-        match time_left(now, until) {
-            Some(left) => Ok(left),
-            None => Err(Error::from(ErrorKind::TimedOut)),
-        }
+        self.left_at(now)
+            .ok_or_else(|| Error::from(ErrorKind::TimedOut))
     }
 }

@@ -1,7 +1,7 @@
 //! What a client sends, until its time is up.
-ghost use Rattle.std.specs.Prelude.{◌≡◌, IsTrue, OnErr};
+ghost use Rattle.std.specs.Prelude.{◌≡◌, ◌<◌, length, take, IfOk, IfSome, IsTrue, OnErr, Some};
 ghost use Rattle.std.specs.Io.{ReadsAtMost};
-ghost use Rattle.std.specs.Io.KnownBytes.{ReadConsumes};
+ghost use Rattle.std.specs.Io.KnownBytes.{Consumes, IsAtEnd, Keeps, ReadConsumes};
 
 use crate::deadline::Deadline;
 use crate::inlet::Inlet;
@@ -26,6 +26,8 @@ impl<'a, C: Clock, S: Wire> Receiver<'a, C, S> {
         ensures bytes { ReadConsumes (S.remaining self.old.stream) (S.remaining self.new.stream)
             result buffer.new }
         ensures failed { OnErr result (IsTrue (S.failed self.new.stream)) }
+        ensures until { IfSome self.old.deadline.until
+            (λ until. self.new.deadline.until ≡ Some until) }
     {
         match self.deadline.left() {
             Ok(left) => self.stream.hear_within(left, buffer),
@@ -48,7 +50,20 @@ impl<'a, C: Clock, S: Wire> Read for Receiver<'a, C, S> {
 impl<'a, C: Clock, S: Wire> Inlet for Receiver<'a, C, S> {
     ghost failed = { λ receiver. S.failed receiver.stream };
 
-    fn hear(&mut self, buffer: &mut [u8]) -> Result<usize, InputFault> {
+    fn hear(&mut self, buffer: &mut [u8]) -> Result<usize, InputFault>
+        ensures bound { ReadsAtMost result buffer.new }
+        ensures bytes { IfOk result
+            (λ count. Consumes (S.remaining self.old.stream) (S.remaining self.new.stream)
+            (take count buffer.new)) }
+        ensures end { IfOk result
+            (λ count. count ≡ 0 → 0 < length buffer.old
+            → IsAtEnd (S.remaining self.new.stream)) }
+        ensures kept { OnErr result
+            (Keeps (S.remaining self.old.stream) (S.remaining self.new.stream)) }
+        ensures failed { OnErr result (IsTrue (S.failed self.new.stream)) }
+        ensures until { IfSome self.old.deadline.until
+            (λ until. self.new.deadline.until ≡ Some until) }
+    {
         for _ in 0..=MOST_INTERRUPTIONS {
             match self.hear_once(buffer) {
                 Ok(count) => return Ok(count),

@@ -1,7 +1,8 @@
 //! What a client takes, until its time is up.
-ghost use Rattle.std.specs.Prelude.{◌≡◌, ◌<◌, take, IfOk, IsTrue, OnErr};
+ghost use Rattle.std.specs.Prelude.{◌≡◌, ◌<◌, take, IfOk, IfSome, IsTrue, OnErr, OnOk, Some};
 ghost use Rattle.std.specs.Io.{WritesAtMost};
 ghost use Rattle.std.specs.Io.KnownBytes.{Appends, Keeps, WriteAppends};
+ghost use Rattle.goo_files_streams.specs.Streams.{AppendsPrefix};
 
 use crate::deadline::Deadline;
 use crate::outlet::Outlet;
@@ -25,6 +26,8 @@ impl<'a, C: Clock, S: Wire> Sender<'a, C, S> {
         ensures bytes { WriteAppends (S.contents self.old.stream) (S.contents self.new.stream) result
             text.now }
         ensures failed { OnErr result (IsTrue (S.failed self.new.stream)) }
+        ensures until { IfSome self.old.deadline.until
+            (λ until. self.new.deadline.until ≡ Some until) }
     {
         match self.deadline.left() {
             Ok(left) => self.stream.send_within(left, text),
@@ -50,6 +53,8 @@ impl<'a, C: Clock, S: Wire> Sender<'a, C, S> {
         ensures kept { OnErr result
             (Keeps (S.contents self.old.stream) (S.contents self.new.stream)) }
         ensures failed { OnErr result (IsTrue (S.failed self.new.stream)) }
+        ensures until { IfSome self.old.deadline.until
+            (λ until. self.new.deadline.until ≡ Some until) }
     {
         for _ in 0..=MOST_INTERRUPTIONS {
             match self.send_once(text) {
@@ -85,7 +90,15 @@ impl<'a, C: Clock, S: Wire> Write for Sender<'a, C, S> {
 impl<'a, C: Clock, S: Wire> Outlet for Sender<'a, C, S> {
     ghost failed = { λ sender. S.failed sender.stream };
 
-    fn send(&mut self, text: &[u8]) -> Result<(), WriteFault> {
+    fn send(&mut self, text: &[u8]) -> Result<(), WriteFault>
+        ensures written { OnOk result
+            (Appends (S.contents self.old.stream) (S.contents self.new.stream) text.now) }
+        ensures prefix { OnErr result
+            (AppendsPrefix (S.contents self.old.stream) (S.contents self.new.stream) text.now) }
+        ensures failed { OnErr result (IsTrue (S.failed self.new.stream)) }
+        ensures until { IfSome self.old.deadline.until
+            (λ until. self.new.deadline.until ≡ Some until) }
+    {
         let mut written = 0;
         while written < text.len() {
             written += self.send_some(&text[written..])?;

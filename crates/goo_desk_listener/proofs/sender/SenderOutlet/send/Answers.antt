@@ -1,4 +1,4 @@
-use Rattle.std.proofs.Common.{arith, length-drop, ℕ}
+use Rattle.std.proofs.Common.{arith, length-drop, rules, ℕ}
 use Rattle.goo_files_streams.proofs.AppendsFacts.{appends-next, rest-whole}
 use Rattle.goo_desk_listener.proofs.sender.SenderOutlet.send.Goals as goal
 
@@ -10,4 +10,5 @@ loop-written-preserved g c =
     record {
       within = omega (arith, bound, length-drop {A = ℕ});
       appended = appends-next _ (g.S.Write.contents c.loop-written.self.stream) _ c.args.text.now _ _ c.loop-written.invariant.appended next;
+      until = search rules;
     }
