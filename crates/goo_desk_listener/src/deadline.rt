@@ -1,10 +1,10 @@
 //! How long a client may take.
 ghost use Rattle.std.specs.Prelude.{◌≡◌, ◌-◌, ◌+◌, ◌*◌, ◌<◌, ◌≤◌, ◌↔◌, max, Some, IfSome, IsNone};
-ghost use Rattle.std.specs.Prelude.{IsSomeAnd};
+ghost use Rattle.std.specs.Prelude.{IsSome, IsSomeAnd};
 ghost use Rattle.std.specs.Duration.{as_nanos};
-ghost use Rattle.std.specs.Time.{instant_nanos};
+ghost use Rattle.std.specs.Time.{instant_nanos, FitsClock};
 
-use std::io::{Error, ErrorKind, Result};
+use std::io::{Error, ErrorKind};
 use std::time::{Clock, Duration, Instant};
 
 /// How many seconds a client may take to send its request, and how many to take its answer.
@@ -12,6 +12,19 @@ const PATIENCE: u64 = 10;
 
 /// The least number of milliseconds that a stream takes as its limit.
 const LEAST: u64 = 1;
+
+/// That a call may not begin: time is up, or the clock tells no time. Only a [`Deadline`] tells so.
+#[derive(Drop)]
+pub struct TimeUp {
+    error: Error,
+}
+
+impl TimeUp {
+    /// The fault of the call.
+    pub(crate) fn error(self) -> Error {
+        self.error
+    }
+}
 
 /// The time of a client, which ends ten seconds after its first call.
 #[derive(Drop)]
@@ -22,7 +35,8 @@ pub(crate) struct Deadline<'a, C: Clock> {
 
 /// The moment that is ten seconds after this one. `None` where the clock counts no further.
 fn ten_seconds_after(now: Instant) -> Option<Instant>
-    ensures { IfSome result
+    ensures counts { IsSome result ↔ FitsClock (instant_nanos now + 10 * 1_000_000_000) }
+    ensures until { IfSome result
         (λ until. instant_nanos until ≡ instant_nanos now + 10 * 1_000_000_000) }
 {
     now.checked_add(Duration::from_secs(PATIENCE))
@@ -56,6 +70,8 @@ impl<'a, C: Clock> Deadline<'a, C> {
         ensures set { IfSome self.old.until (λ until. self.new.until ≡ Some until) }
         ensures first { IsNone self.old.until → IfSome self.new.until
             (λ until. instant_nanos until ≡ instant_nanos now + 10 * 1_000_000_000) }
+        ensures late { IsNone result → FitsClock (instant_nanos now + 10 * 1_000_000_000)
+            → IsSomeAnd self.new.until (λ until. instant_nanos until ≤ instant_nanos now) }
         ensures left { IfSome result (λ left. IsSomeAnd self.new.until
             (λ until. (instant_nanos now < instant_nanos until)
             × (as_nanos left ≡ max (instant_nanos until - instant_nanos now) 1_000_000))) }
@@ -72,13 +88,15 @@ impl<'a, C: Clock> Deadline<'a, C> {
     ///
     /// # Errors
     ///
-    /// `TimedOut` where time is up, or the clock counts no further; and where the clock can't be
-    /// read.
-    pub(crate) fn left(&mut self) -> Result<Duration>
+    /// Where time is up, or the clock counts no further; and where the clock can't be read.
+    pub(crate) fn left(&mut self) -> Result<Duration, TimeUp>
         ensures set { IfSome self.old.until (λ until. self.new.until ≡ Some until) }
     {
-        let now = Instant::now(self.clock)?;
-        self.left_at(now)
-            .ok_or_else(|| Error::from(ErrorKind::TimedOut))
+        match Instant::now(self.clock) {
+            Ok(now) => self.left_at(now).ok_or_else(|| TimeUp {
+                error: Error::from(ErrorKind::TimedOut),
+            }),
+            Err(error) => Err(TimeUp { error }),
+        }
     }
 }

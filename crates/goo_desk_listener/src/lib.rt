@@ -14,6 +14,7 @@ mod socket;
 mod system_socket;
 mod wire;
 
+pub use deadline::TimeUp;
 pub use inlet::Inlet;
 pub use listener::Listener;
 pub use local_listener::LocalListener;

@@ -31,9 +31,9 @@ impl<'a, C: Clock, S: Wire> Receiver<'a, C, S> {
     {
         match self.deadline.left() {
             Ok(left) => self.stream.hear_within(left, buffer),
-            Err(error) => {
-                self.stream.give_up();
-                Err(error)
+            Err(why) => {
+                self.stream.give_up(&why);
+                Err(why.error())
             }
         }
     }
@@ -64,7 +64,7 @@ impl<'a, C: Clock, S: Wire> Inlet for Receiver<'a, C, S> {
         ensures until { IfSome self.old.deadline.until
             (λ until. self.new.deadline.until ≡ Some until) }
     {
-        for _ in 0..=MOST_INTERRUPTIONS {
+        for _ in 0..MOST_INTERRUPTIONS {
             match self.hear_once(buffer) {
                 Ok(count) => return Ok(count),
                 Err(error) => {
@@ -74,7 +74,9 @@ impl<'a, C: Clock, S: Wire> Inlet for Receiver<'a, C, S> {
                 }
             }
         }
-        self.stream.give_up();
-        Err(InputFault::Read)
+        match self.hear_once(buffer) {
+            Ok(count) => Ok(count),
+            Err(_) => Err(InputFault::Read),
+        }
     }
 }

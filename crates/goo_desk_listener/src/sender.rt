@@ -1,5 +1,5 @@
 //! What a client takes, until its time is up.
-ghost use Rattle.std.specs.Prelude.{◌≡◌, ◌<◌, take, IfOk, IfSome, IsTrue, OnErr, OnOk, Some};
+ghost use Rattle.std.specs.Prelude.{◌≡◌, ◌<◌, length, take, IfOk, IfSome, IsTrue, OnErr, OnOk, Some};
 ghost use Rattle.std.specs.Io.{WritesAtMost};
 ghost use Rattle.std.specs.Io.KnownBytes.{Appends, Keeps, WriteAppends};
 ghost use Rattle.goo_files_streams.specs.Streams.{AppendsPrefix};
@@ -26,14 +26,16 @@ impl<'a, C: Clock, S: Wire> Sender<'a, C, S> {
         ensures bytes { WriteAppends (S.contents self.old.stream) (S.contents self.new.stream) result
             text.now }
         ensures failed { OnErr result (IsTrue (S.failed self.new.stream)) }
+        ensures idle { IfOk result (λ count. count ≡ 0 → 0 < length text.now
+            → IsTrue (S.failed self.new.stream)) }
         ensures until { IfSome self.old.deadline.until
             (λ until. self.new.deadline.until ≡ Some until) }
     {
         match self.deadline.left() {
             Ok(left) => self.stream.send_within(left, text),
-            Err(error) => {
-                self.stream.give_up();
-                Err(error)
+            Err(why) => {
+                self.stream.give_up(&why);
+                Err(why.error())
             }
         }
     }
@@ -45,6 +47,7 @@ impl<'a, C: Clock, S: Wire> Sender<'a, C, S> {
     ///
     /// Where the stream fails, takes no byte, or is interrupted too often. Nothing was taken then.
     fn send_some(&mut self, text: &[u8]) -> Result<usize, WriteFault>
+        requires { 0 < length text.now }
         ensures bound { WritesAtMost result text.now }
         ensures bytes { IfOk result
             (λ count. Appends (S.contents self.old.stream) (S.contents self.new.stream)
@@ -56,12 +59,9 @@ impl<'a, C: Clock, S: Wire> Sender<'a, C, S> {
         ensures until { IfSome self.old.deadline.until
             (λ until. self.new.deadline.until ≡ Some until) }
     {
-        for _ in 0..=MOST_INTERRUPTIONS {
+        for _ in 0..MOST_INTERRUPTIONS {
             match self.send_once(text) {
-                Ok(0) => {
-                    self.stream.give_up();
-                    return Err(WriteFault);
-                }
+                Ok(0) => return Err(WriteFault),
                 Ok(count) => return Ok(count),
                 Err(error) => {
                     if error.kind() != ErrorKind::Interrupted {
@@ -70,8 +70,11 @@ impl<'a, C: Clock, S: Wire> Sender<'a, C, S> {
                 }
             }
         }
-        self.stream.give_up();
-        Err(WriteFault)
+        match self.send_once(text) {
+            Ok(0) => Err(WriteFault),
+            Ok(count) => Ok(count),
+            Err(_) => Err(WriteFault),
+        }
     }
 }
 
