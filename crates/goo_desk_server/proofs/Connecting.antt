@@ -7,7 +7,7 @@ use Rattle.goo_desk_listener.specs.Clients.{Accepts, Address, Clients, Closed, G
 use Rattle.goo_desk_backend.specs.Backends.{Showing, Importing, Beginning}
 use Rattle.goo_desk_answers.specs.Brought.{FindsLeft}
 use Rattle.goo_desk_server.specs.Connects.{Connects, IsLatest}
-use Rattle.goo_desk_server.specs.Serving.{ConnectsAs, FindsAfter, IsCounted, IsNext, IsServed, ServesNext, ServesTo, Steps}
+use Rattle.goo_desk_server.specs.Serving.{ConnectsAs, FindsAfter, IsCounted, IsEnded, IsNext, IsServed, NextBy, ServesAll, ServesNext, ServesTo, Steps}
 use Rattle.goo_desk_server.specs.declared.server_fault.ServerFault.{ServerFault}
 use Rattle.goo_desk_server.specs.declared.server_fault.ServerFault.TheVariants.{Write, Accept, Store, Memory}
 
@@ -76,7 +76,7 @@ module _ (shows : Showing) (imports : Importing) (begins : Beginning) where
   -- ---- one connection more
 
   -- it was accepted, served and given back
-  pub accepted_next : (old mid now : Clients) (input output : Option (List ℕ)) (closed : Closed) (s t : Seen) (before after : Option State → Type 0) → Accepts old mid input output → GivesBack closed mid now
+  accepted_next : (old mid now : Clients) (input output : Option (List ℕ)) (closed : Closed) (s t : Seen) (before after : Option State → Type 0) → Accepts old mid input output → GivesBack closed mid now
       → IsLatest shows imports begins input output closed s t before after → ServesNext shows imports begins old now s t before after
   accepted_next old mid now input output closed s t before after accepts gives latest =
       let counted : mid.accepted ≡ old.accepted + 1 = ap (λ (c : Clients). c.accepted) accepts.counted in
@@ -97,12 +97,20 @@ module _ (shows : Showing) (imports : Importing) (begins : Beginning) where
             (subst (λ (k : Option (List ℕ)). IsLatest shows imports begins k output closed s t before after) (accepts.heard ∙ ap (λ (f : ℕ → Option (List ℕ)). f old.accepted) (sym sends)) latest));
       }
 
-  pub by_serving : (r : Result (Unit {0}) ServerFault) (old now : Clients) (s t : Seen) (before after : Option State → Type 0) → IsServed r → ServesNext shows imports begins old now s t before after → IsNext shows imports begins old now s t before after r
-  by_serving (Ok x) old now s t before after ends next = next
-  by_serving (Err Store) old now s t before after ends next = next
-  by_serving (Err Accept) old now s t before after ends next = absurd ends
-  by_serving (Err Write) old now s t before after ends next = absurd ends
-  by_serving (Err Memory) old now s t before after ends next = absurd ends
+  next_by : (r : Result (Unit {0}) ServerFault) (old now : Clients) (s t : Seen) (before after : Option State → Type 0) → IsServed r → ServesNext shows imports begins old now s t before after → NextBy shows imports begins old now s t before after r
+  next_by (Ok x) old now s t before after ends next = next
+  next_by (Err Store) old now s t before after ends next = next
+  next_by (Err Accept) old now s t before after ends next = absurd ends
+  next_by (Err Write) old now s t before after ends next = absurd ends
+  next_by (Err Memory) old now s t before after ends next = absurd ends
+
+  pub by_serving : (r : Result (Unit {0}) ServerFault) (old mid now : Clients) (input output : Option (List ℕ)) (closed : Closed) (s t : Seen) (before after : Option State → Type 0) → IsEnded r s t → Accepts old mid input output → GivesBack closed mid now
+      → IsLatest shows imports begins input output closed s t before after → IsNext shows imports begins old now s t before after r
+  by_serving r old mid now input output closed s t before after ended accepts gives latest = record {
+    next = next_by r old now s t before after ended.served (accepted_next old mid now input output closed s t before after accepts gives latest);
+    at = ap (λ (c : Clients). c.at) gives.kept ∙ ap (λ (c : Clients). c.at) accepts.counted;
+    told = ended.told;
+  }
 
   -- ---- all of them
 
@@ -150,28 +158,35 @@ module _ (shows : Showing) (imports : Importing) (begins : Beginning) where
           found = λ runs honest sure. finds_fewer mid from.accepted so.count first m before after less (so.found runs honest sure);
         }))
 
+    served_by : (r : Result (Unit {0}) ServerFault) → NextBy shows imports begins mid now m last before after r → ServesTo shows imports begins from now first last after
+    served_by (Ok x) next = one_served next
+    served_by (Err Store) next = one_served next
+    served_by (Err Accept) (is, same, less) = none_next is same less
+    served_by (Err Write) next = absurd next
+    served_by (Err Memory) next = absurd next
+
     pub next_served : (r : Result (Unit {0}) ServerFault) → IsNext shows imports begins mid now m last before after r → ServesTo shows imports begins from now first last after
-    next_served (Ok x) next = one_served next
-    next_served (Err Store) next = one_served next
-    next_served (Err Accept) (is, same, less) = none_next is same less
-    next_served (Err Write) next = absurd next
-    next_served (Err Memory) next = absurd next
+    next_served r next = served_by r next.next
 
-  -- the last of those that were accepted, by the fault that ended all
-  by_fault : (fault : ServerFault) (was asked count : ℕ) (mid now : Clients) (s t : Seen) (before after : Option State → Type 0) → mid.accepted ≡ was + count → count < asked → IsNext shows imports begins mid now s t before after (Err fault)
-      → IsCounted {T = Unit {0}} (Err fault) was now.accepted asked
-  by_fault Accept was asked count mid now s t before after is low (same, rest, less) =
-      let one : now.accepted ≡ mid.accepted = ap (λ (c : Clients). c.accepted) same in
-      (omega (arith, is, one), omega (arith, is, low, one))
-  by_fault Store was asked count mid now s t before after is low next = (omega (arith, is, next.counted), omega (arith, is, low, next.counted))
-  by_fault Write was asked count mid now s t before after is low next = absurd next
-  by_fault Memory was asked count mid now s t before after is low next = absurd next
+    -- the last of those that were accepted, by the fault that ended all
+    counted_by : (fault : ServerFault) (asked count : ℕ) → mid.accepted ≡ from.accepted + count → count < asked → NextBy shows imports begins mid now m last before after (Err fault) → IsCounted {T = Unit {0}} (Err fault) from.accepted now.accepted asked
+    counted_by Accept asked count is low (same, rest, less) =
+        let one : now.accepted ≡ mid.accepted = ap (λ (c : Clients). c.accepted) same in
+        (omega (arith, is, one), omega (arith, is, low, one))
+    counted_by Store asked count is low next = (omega (arith, is, next.counted), omega (arith, is, low, next.counted))
+    counted_by Write asked count is low next = absurd next
+    counted_by Memory asked count is low next = absurd next
 
-  pub counted_err : (r : Result (Unit {0}) ServerFault) (fault : ServerFault) (was asked count : ℕ) (mid now : Clients) (s t : Seen) (before after : Option State → Type 0) → IsErrAnd r (λ f. f ≡ fault) → mid.accepted ≡ was + count → count < asked
-      → IsNext shows imports begins mid now s t before after (Err fault) → IsCounted r was now.accepted asked
-  counted_err (Ok x) fault was asked count mid now s t before after same is low next = absurd same
-  counted_err (Err f) fault was asked count mid now s t before after same is low next =
-      by_fault f was asked count mid now s t before after is low (subst (λ (e : ServerFault). IsNext shows imports begins mid now s t before after (Err e)) (sym same) next)
+    pub stopped : (r : Result (Unit {0}) ServerFault) (fault : ServerFault) (asked count : ℕ) → IsErrAnd r (λ f. f ≡ fault) → mid.accepted ≡ from.accepted + count → count < asked → (first.refusals ≡ 0 → m.refusals ≡ 0) → mid.at ≡ from.at
+        → IsNext shows imports begins mid now m last before after (Err fault) → ServesAll shows imports begins from now first last after asked r
+    stopped (Ok x) fault asked count same is low quiet at next = absurd same
+    stopped (Err f) fault asked count same is low quiet at next =
+        subst (λ (e : ServerFault). ServesAll shows imports begins from now first last after asked (Err e)) (sym same) (record {
+          serves = served_by (Err fault) next.next;
+          counted = counted_by fault asked count is low next.next;
+          at = next.at ∙ at;
+          told = λ none. next.told (quiet none);
+        })
 
   -- what was corrupted stays so
   pub steps_honest : (clients : Clients) (was count : ℕ) (first last : Seen) → Steps shows imports begins clients was count first last → last.corruptions ≡ 0 → first.corruptions ≡ 0

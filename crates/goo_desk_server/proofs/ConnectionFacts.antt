@@ -7,6 +7,7 @@ use Rattle.goo_files_streams.specs.declared.InputFault.{InputFault}
 use Rattle.goo_files_streams.specs.declared.InputFault.TheVariants as reading
 use Rattle.goo_types.specs.declared.request.Request.{Request}
 use Rattle.goo_types.specs.declared.fault.Fault.{Fault}
+use Rattle.goo_types.specs.declared.fault.Fault.TheVariants.{Memory, Store}
 use Rattle.goo_spec.specs.State.{State}
 use Rattle.goo_core_shelf.specs.Crash.{FindsOnly, FindsNoMore}
 use Rattle.goo_core_shelf.specs.Desk.{Seen}
@@ -22,7 +23,7 @@ use Rattle.goo_desk_answers.proofs.DurableFacts.{nothing_left}
 use Rattle.goo_desk_server.specs.declared.connection.Served.{Served}
 use Rattle.goo_desk_server.specs.declared.serve_fault.ServeFault.{ServeFault}
 use Rattle.goo_desk_server.specs.declared.serve_fault.ServeFault.TheVariants as fault
-use Rattle.goo_desk_server.specs.ConnectionFaults.{IsOfReader, of_reading}
+use Rattle.goo_desk_server.specs.ConnectionFaults.{IsOfReader, IsToldIn, of_reading}
 use Rattle.goo_desk_server.specs.Reading.{StandsFor}
 use Rattle.goo_desk_server.specs.ConnectionEnds.{Ends, SendsReply, Serves, ServesHeard}
 use Rattle.goo_desk_server.specs.ConnectionServed.{IsApology, IsExcused, IsServed}
@@ -93,6 +94,7 @@ module _ (shows : Showing) (imports : Importing) (begins : Beginning) where
     stays = serves.stays;
     crash = λ runs honest sure o may. let (qs, are, is) = serves.crash runs honest sure o may in (qs, left_stands input bytes qs stands are, is);
     shut = serves.shut;
+    told = serves.told;
   }
 
   -- what is known of the reader
@@ -102,10 +104,11 @@ module _ (shows : Showing) (imports : Importing) (begins : Beginning) where
   heard-serves (Some input) bytes old new had has r w before after result stands serves = (input, refl, serves-stand input bytes old new had has r w before after result stands serves)
 
   -- nothing was read
-  silent : (bytes : List ℕ) (m : Seen) (had : Option (List ℕ)) (failed : Bool) (leaves : Option State → Type 0) (result : Result Served ServeFault) → Ends shows imports begins bytes m m had had failed result → (m.defects ≡ 0 → FindsOnly leaves m.state)
+  silent : (bytes : List ℕ) (m : Seen) (had : Option (List ℕ)) (failed : Bool) (leaves : Option State → Type 0) (result : Result Served ServeFault) → Ends shows imports begins bytes m m had had failed result → (m.refusals ≡ 0 → IsToldIn result m.refusals) → (m.defects ≡ 0 → FindsOnly leaves m.state)
       → Serves shows imports begins bytes m m had had failed leaves leaves result
-  silent bytes m had failed leaves result ends settled = record {
+  silent bytes m had failed leaves result ends told settled = record {
     ends = ends;
+    told = told;
     defects_stay = λ none. none;
     corruptions_stay = λ none. none;
     stays = λ none sure. record { counts = omega arith; sure = λ _. sure };
@@ -114,25 +117,29 @@ module _ (shows : Showing) (imports : Importing) (begins : Beginning) where
   }
 
   silent-heard : (known : Option (List ℕ)) (m : Seen) (had : Option (List ℕ)) (failed : Bool) (leaves : Option State → Type 0) (result : Result Served ServeFault) → ((bytes : List ℕ) → Ends shows imports begins bytes m m had had failed result)
-      → (m.defects ≡ 0 → FindsOnly leaves m.state) → ServesHeard shows imports begins known m m had had failed leaves leaves result
-  silent-heard None m had failed leaves result ends settled = ([], tt, silent [] m had failed leaves result (ends []) settled)
-  silent-heard (Some input) m had failed leaves result ends settled = (input, refl, silent input m had failed leaves result (ends input) settled)
+      → (m.refusals ≡ 0 → IsToldIn result m.refusals) → (m.defects ≡ 0 → FindsOnly leaves m.state) → ServesHeard shows imports begins known m m had had failed leaves leaves result
+  silent-heard None m had failed leaves result ends told settled = ([], tt, silent [] m had failed leaves result (ends []) told settled)
+  silent-heard (Some input) m had failed leaves result ends told settled = (input, refl, silent input m had failed leaves result (ends input) told settled)
 
   -- there was no room
   pub no-room : (known : Option (List ℕ)) (m : Seen) (had : Option (List ℕ)) (failed : Bool) (leaves : Option State → Type 0) → (m.defects ≡ 0 → FindsOnly leaves m.state)
       → ServesHeard shows imports begins known m m had had failed leaves leaves (Err fault.Memory)
-  no-room known m had failed leaves settled = silent-heard known m had failed leaves (Err fault.Memory) (λ bytes. (refl, keeps-same had)) settled
+  no-room known m had failed leaves settled = silent-heard known m had failed leaves (Err fault.Memory) (λ bytes. (refl, keeps-same had)) (λ none. none) settled
 
   by_fault : (of : InputFault) (m : Seen) (had : Option (List ℕ)) (r w : Bool) → IsOfReader of r → (bytes : List ℕ) → Ends shows imports begins bytes m m had had (r || w) (Err (of_reading of))
   by_fault reading.Read m had r w failed bytes = (refl, of_reader r w failed, keeps-same had)
   by_fault reading.Memory m had r w failed bytes = (refl, keeps-same had)
+
+  told_by_fault : (of : InputFault) (n : ℕ) → n ≡ 0 → IsToldIn {T = Served} (Err (of_reading of)) n
+  told_by_fault reading.Read n none = none
+  told_by_fault reading.Memory n none = none
 
   -- the reader failed, or there was no room
   pub unread : (result : Result Served ServeFault) (of : InputFault) (known : Option (List ℕ)) (m : Seen) (had : Option (List ℕ)) (r w : Bool) (leaves : Option State → Type 0) → IsErrAnd result (λ f. f ≡ of_reading of) → IsOfReader of r
       → (m.defects ≡ 0 → FindsOnly leaves m.state) → ServesHeard shows imports begins known m m had had (r || w) leaves leaves result
   unread (Ok x) of known m had r w leaves same failed settled = absurd same
   unread (Err f) of known m had r w leaves same failed settled =
-      subst (λ (e : ServeFault). ServesHeard shows imports begins known m m had had (r || w) leaves leaves (Err e)) (sym same) (silent-heard known m had (r || w) leaves (Err (of_reading of)) (by_fault of m had r w failed) settled)
+      subst (λ (e : ServeFault). ServesHeard shows imports begins known m m had had (r || w) leaves leaves (Err e)) (sym same) (silent-heard known m had (r || w) leaves (Err (of_reading of)) (by_fault of m had r w failed) (told_by_fault of m.refusals) settled)
 
   -- a reply was sent, or a beginning of it
   replied : (result : Result Served ServeFault) (bytes : List ℕ) (old new : Seen) (had has : Option (List ℕ)) (failed : Bool) (status : Status) (text : List ℕ) → IsServed shows imports begins old bytes status text new
@@ -143,27 +150,38 @@ module _ (shows : Showing) (imports : Importing) (begins : Beginning) where
   replied (Err fault.Read) bytes old new had has failed status text is cut = absurd cut
   replied (Err fault.Memory) bytes old new had has failed status text is cut = absurd cut
 
+  -- a reply is sent whether or not that is told
+  told_replied : (result : Result Served ServeFault) (had has : Option (List ℕ)) (failed : Bool) (status : Status) (text : List ℕ) (n : ℕ) → SendsReply had has failed status text result → n ≡ 0 → IsToldIn result n
+  told_replied (Ok served) had has failed status text n sent none = none
+  told_replied (Err fault.Write) had has failed status text n sent none = none
+  told_replied (Err fault.Store) had has failed status text n sent none = absurd sent
+  told_replied (Err fault.Read) had has failed status text n sent none = absurd sent
+  told_replied (Err fault.Memory) had has failed status text n sent none = absurd sent
+
   module _ (bytes : List ℕ) (old new : Seen) (had has : Option (List ℕ)) (failed : Bool) (before after : Option State → Type 0) (crash : ImportsAreRuns imports begins → new.corruptions ≡ 0 → old.defects ≡ 0 → FindsLeft after old.state bytes)
       (shut : new.corruptions ≡ 0 → ¬ (old.defects ≡ 0) → FindsNoMore before after) where
-    ended : {T : Type 0} (given : Result T Fault) (result : Result Served ServeFault) → StaysReliable old new given → Ends shows imports begins bytes old new had has failed result → Serves shows imports begins bytes old new had has failed before after result
-    ended given result reliable ends = record { ends = ends; defects_stay = reliable.defects_stay; corruptions_stay = reliable.corruptions_stay; stays = reliable.stays; crash = crash; shut = shut }
+    ended : {T : Type 0} (given : Result T Fault) (result : Result Served ServeFault) → StaysReliable old new given → Ends shows imports begins bytes old new had has failed result → (old.refusals ≡ 0 → IsToldIn result new.refusals)
+        → Serves shows imports begins bytes old new had has failed before after result
+    ended given result reliable ends told = record { ends = ends; defects_stay = reliable.defects_stay; corruptions_stay = reliable.corruptions_stay; stays = reliable.stays; crash = crash; shut = shut; told = told }
 
     -- the answer was sent
     pub answer-serves : {T : Type 0} (x : T) (result : Result Served ServeFault) (status : Status) (text : List ℕ) → StaysReliable old new (Ok x) → (new.corruptions ≡ 0 → Responds shows imports old.state bytes status text new.state)
         → SendsReply had has failed status text result → Serves shows imports begins bytes old new had has failed before after result
     answer-serves x result status text reliable response sent =
         ended (Ok x) result reliable (replied result bytes old new had has failed status text (inl (record { response = response; sure = λ honest sure. reliable.works honest sure })) sent)
+        (λ none. told_replied result had has failed status text new.refusals sent (reliable.told none))
 
     excuse : (text : List ℕ) → IsApology bytes text → (new.defects ≡ 0 → Fails imports begins old.state bytes new.state) → IsExcused shows imports begins old bytes Unavailable text new
     excuse text is state = record { unavailable = refl; text_is = is; state = state }
 
     -- there was no room to answer
-    pub excuse-serves : {T : Type 0} (why : Fault) (result : Result Served ServeFault) (text : List ℕ) → StaysReliable {T = T} old new (Err why) → IsApology bytes text → (new.defects ≡ 0 → Fails imports begins old.state bytes new.state)
+    pub excuse-serves : {T : Type 0} (result : Result Served ServeFault) (text : List ℕ) → StaysReliable {T = T} old new (Err Memory) → IsApology bytes text → (new.defects ≡ 0 → Fails imports begins old.state bytes new.state)
         → SendsReply had has failed Unavailable text result → Serves shows imports begins bytes old new had has failed before after result
-    excuse-serves why result text reliable is state sent = ended (Err why) result reliable (replied result bytes old new had has failed Unavailable text (inr (excuse text is state)) sent)
+    excuse-serves {T} result text reliable is state sent =
+        ended {T = T} (Err Memory) result reliable (replied result bytes old new had has failed Unavailable text (inr (excuse text is state)) sent) (λ none. told_replied result had has failed Unavailable text new.refusals sent (reliable.told none))
 
     -- the records failed
-    pub shut-serves : {T : Type 0} {E : Type 0} (why : Fault) (sending : Result (Unit {0}) E) (text : List ℕ) → StaysReliable {T = T} old new (Err why) → IsApology bytes text → (new.defects ≡ 0 → Fails imports begins old.state bytes new.state)
+    pub shut-serves : {T : Type 0} {E : Type 0} (sending : Result (Unit {0}) E) (text : List ℕ) → StaysReliable {T = T} old new (Err Store) → IsApology bytes text → (new.defects ≡ 0 → Fails imports begins old.state bytes new.state)
         → OnOk sending (Appends had has text) → OnErr sending (AppendsPrefix had has text) → OnErr sending (IsTrue failed) → Serves shows imports begins bytes old new had has failed before after (Err fault.Store)
-    shut-serves {T} {E} why (Ok x) text reliable is state all part broken = ended (Err why) (Err fault.Store) reliable (text, excuse text is state, inl all)
-    shut-serves {T} {E} why (Err e) text reliable is state all part broken = ended (Err why) (Err fault.Store) reliable (text, excuse text is state, inr (broken, part))
+    shut-serves {T} {E} (Ok x) text reliable is state all part broken = ended {T = T} (Err Store) (Err fault.Store) reliable (text, excuse text is state, inl all) reliable.told
+    shut-serves {T} {E} (Err e) text reliable is state all part broken = ended {T = T} (Err Store) (Err fault.Store) reliable (text, excuse text is state, inr (broken, part)) reliable.told

@@ -10,6 +10,7 @@ use Rattle.goo_desk_responses.specs.declared.status.Status.TheVariants.{Unavaila
 use Rattle.goo_desk_backend.specs.Backends.{Showing, Importing, Beginning}
 use Rattle.goo_desk_backend.specs.Tables.{ImportsAreRuns}
 use Rattle.goo_desk_answers.specs.Brought.{FindsLeft}
+use Rattle.goo_desk_server.specs.ConnectionFaults.{IsToldIn}
 use Rattle.goo_desk_server.specs.ConnectionServed.{IsExcused, IsServed}
 use Rattle.goo_desk_server.specs.declared.connection.Served.{Served}
 use Rattle.goo_desk_server.specs.declared.serve_fault.ServeFault.{ServeFault}
@@ -53,6 +54,8 @@ module _ (shows : Showing) (imports : Importing) (begins : Beginning) (bytes : L
     pub crash : ImportsAreRuns imports begins → new.corruptions ≡ 0 → old.defects ≡ 0 → FindsLeft after old.state bytes
     -- where a call had failed before, nothing is put where a crash finds it
     pub shut : new.corruptions ≡ 0 → old.defects ≢ 0 → FindsNoMore before after
+    -- a fault of the store is told just where a call was refused
+    pub told : old.refusals ≡ 0 → IsToldIn result new.refusals
 
 -- there are bytes that the reader gave, all of them where it tells them, and these were served
 abbrev pub ServesHeard : Showing → Importing → Beginning → Option (List ℕ) → Seen → Seen → Option (List ℕ) → Option (List ℕ) → Bool → (Option State → Type 0) → (Option State → Type 0) → Result Served ServeFault → Type 0

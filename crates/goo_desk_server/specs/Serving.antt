@@ -11,6 +11,38 @@ use Rattle.goo_desk_server.specs.Connects.{Connects, IsLatest}
 use Rattle.goo_desk_server.specs.declared.server_fault.ServerFault.{ServerFault}
 use Rattle.goo_desk_server.specs.declared.server_fault.ServerFault.TheVariants.{Write, Accept, Store, Memory}
 
+-- a connection that was accepted was served, whatever its client did, or the records failed
+abbrev pub IsServed : {T : Type 0} → Result T ServerFault → Type 0
+IsServed (Ok x) = Unit {0}
+IsServed (Err Accept) = ⊥
+IsServed (Err Store) = Unit {0}
+IsServed (Err Write) = ⊥
+IsServed (Err Memory) = ⊥
+
+-- as many were accepted as were asked for, and after a fault fewer, or the records failed at the last one; none before it was told where it listens
+abbrev pub IsCounted : {T : Type 0} → Result T ServerFault → ℕ → ℕ → ℕ → Type 0
+IsCounted (Ok x) was now asked = now ≡ was + asked
+IsCounted (Err Accept) was now asked = (was ≤ now) × (now < was + asked)
+IsCounted (Err Store) was now asked = (was < now) × (now ≤ was + asked)
+IsCounted (Err Write) was now asked = now ≡ was
+IsCounted (Err Memory) was now asked = now ≡ was
+
+-- a fault of the store is told just where a call was refused
+abbrev pub IsToldBy : ServerFault → ℕ → Type 0
+IsToldBy Write refusals = refusals ≡ 0
+IsToldBy Accept refusals = refusals ≡ 0
+IsToldBy Store refusals = refusals ≡ 1
+IsToldBy Memory refusals = refusals ≡ 0
+
+abbrev pub IsToldIn : {T : Type 0} → Result T ServerFault → ℕ → Type 0
+IsToldIn (Ok x) refusals = refusals ≡ 0
+IsToldIn (Err fault) refusals = IsToldBy fault refusals
+
+-- a connection that was accepted ended, and a fault of the store is told so
+pub record IsEnded (result : Result (Unit {0}) ServerFault) (old new : Seen) : Type 0 where
+  pub served : IsServed result
+  pub told : old.refusals ≡ 0 → IsToldIn result new.refusals
+
 module _ (shows : Showing) (imports : Importing) (begins : Beginning) where
   module _ (clients : Clients) where
     -- the connection of this number
@@ -52,36 +84,22 @@ module _ (shows : Showing) (imports : Importing) (begins : Beginning) where
       pub latest : IsLatest shows imports begins (now.sends from.accepted) now.fresh (now.closed from.accepted) old new before after
 
     -- one more was, whatever its client did, or the records failed; or none could be accepted
-    abbrev pub IsNext : Result (Unit {0}) ServerFault → Type 0
-    IsNext (Ok x) = ServesNext
-    IsNext (Err Store) = ServesNext
-    IsNext (Err Accept) = (now ≡ from) × (new ≡ old) × FindsNoMore before after
-    IsNext (Err Write) = ⊥
-    IsNext (Err Memory) = ⊥
+    abbrev pub NextBy : Result (Unit {0}) ServerFault → Type 0
+    NextBy (Ok x) = ServesNext
+    NextBy (Err Store) = ServesNext
+    NextBy (Err Accept) = (now ≡ from) × (new ≡ old) × FindsNoMore before after
+    NextBy (Err Write) = ⊥
+    NextBy (Err Memory) = ⊥
 
--- a connection that was accepted was served, whatever its client did, or the records failed
-abbrev pub IsServed : {T : Type 0} → Result T ServerFault → Type 0
-IsServed (Ok x) = Unit {0}
-IsServed (Err Accept) = ⊥
-IsServed (Err Store) = Unit {0}
-IsServed (Err Write) = ⊥
-IsServed (Err Memory) = ⊥
+    pub record IsNext (result : Result (Unit {0}) ServerFault) : Type 0 where
+      pub next : NextBy result
+      pub at : now.at ≡ from.at
+      pub told : old.refusals ≡ 0 → IsToldIn result new.refusals
 
--- as many were accepted as were asked for, and after a fault fewer, or the records failed at the last one; none before it was told where it listens
-abbrev pub IsCounted : {T : Type 0} → Result T ServerFault → ℕ → ℕ → ℕ → Type 0
-IsCounted (Ok x) was now asked = now ≡ was + asked
-IsCounted (Err Accept) was now asked = (was ≤ now) × (now < was + asked)
-IsCounted (Err Store) was now asked = (was < now) × (now ≤ was + asked)
-IsCounted (Err Write) was now asked = now ≡ was
-IsCounted (Err Memory) was now asked = now ≡ was
-
--- a fault of the store is told just where a call was refused
-abbrev pub IsToldBy : ServerFault → ℕ → Type 0
-IsToldBy Write refusals = refusals ≡ 0
-IsToldBy Accept refusals = refusals ≡ 0
-IsToldBy Store refusals = refusals ≡ 1
-IsToldBy Memory refusals = refusals ≡ 0
-
-abbrev pub IsToldIn : {T : Type 0} → Result T ServerFault → ℕ → Type 0
-IsToldIn (Ok x) refusals = refusals ≡ 0
-IsToldIn (Err fault) refusals = IsToldBy fault refusals
+  -- So many connections were asked for: what those that were accepted came to, where it listens is what it was, and a fault of the store is told just
+  -- where a call was refused.
+  pub record ServesAll (from now : Clients) (first last : Seen) (leaves : Option State → Type 0) (asked : ℕ) (result : Result (Unit {0}) ServerFault) : Type 0 where
+    pub serves : ServesTo from now first last leaves
+    pub counted : IsCounted result from.accepted now.accepted asked
+    pub at : now.at ≡ from.at
+    pub told : first.refusals ≡ 0 → IsToldIn result last.refusals

@@ -2,7 +2,6 @@
 ghost use Rattle.std.specs.Prelude.{◌≡◌, ◌||◌};
 ghost use Rattle.goo_desk_heads.specs.Heads.{Begins};
 ghost use Rattle.goo_desk_server.specs.ConnectionEnds.{SendsReply, Serves, ServesHeard};
-ghost use Rattle.goo_desk_server.specs.ConnectionFaults.{IsToldIn};
 
 use crate::apology::apology;
 use crate::reading::read_decided;
@@ -42,10 +41,9 @@ fn serve_bytes<D: Backend, W: Outlet>(
     writer: &mut W,
 ) -> Result<Served, ServeFault>
     requires { Begins bytes.now front.now }
-    ensures serves { Serves D.shows D.imports D.begins bytes.now (D.seen desk.old) (D.seen desk.new)
+    ensures { Serves D.shows D.imports D.begins bytes.now (D.seen desk.old) (D.seen desk.new)
         (W.contents writer.old) (W.contents writer.new) (W.failed writer.new) (D.leaves desk.old)
         (D.leaves desk.new) result }
-    ensures told { (D.seen desk.old).refusals ≡ 0 → IsToldIn result (D.seen desk.new).refusals }
 {
     match answer_by_routes(alloc, routes, desk, bytes, front) {
         Ok(answer) => send_reply(writer, answer.status, &answer.bytes),
@@ -83,7 +81,6 @@ pub fn serve_by_routes<D: Backend, R: Inlet, W: Outlet>(
         (D.seen desk.old) (D.seen desk.new) (W.contents writer.old) (W.contents writer.new)
         (R.failed reader.new || W.failed writer.new) (D.leaves desk.old) (D.leaves desk.new)
         result }
-    ensures told { (D.seen desk.old).refusals ≡ 0 → IsToldIn result (D.seen desk.new).refusals }
 {
     let arrived = read_decided(alloc, reader)?;
     serve_bytes(alloc, routes, desk, &arrived.bytes, &arrived.front, writer)
@@ -104,7 +101,6 @@ pub fn serve_one<D: Backend, R: Inlet, W: Outlet>(
         (D.seen desk.old) (D.seen desk.new) (W.contents writer.old) (W.contents writer.new)
         (R.failed reader.new || W.failed writer.new) (D.leaves desk.old) (D.leaves desk.new)
         result }
-    ensures told { (D.seen desk.old).refusals ≡ 0 → IsToldIn result (D.seen desk.new).refusals }
 {
     let Ok(routes) = Routes::new(alloc) else {
         return Err(ServeFault::Memory);

@@ -6,7 +6,7 @@ ghost use Rattle.goo_spec.specs.Sound.{IsSound};
 ghost use Rattle.goo_desk_backend.specs.Tables.{ImportsAreRuns};
 ghost use Rattle.goo_desk_server.specs.Connects.{IsLatest};
 ghost use Rattle.goo_desk_server.specs.Runs.{KeepsPromise};
-ghost use Rattle.goo_desk_server.specs.Serving.{IsCounted, IsNext, IsServed, IsToldIn, ServesTo};
+ghost use Rattle.goo_desk_server.specs.Serving.{IsEnded, IsNext, ServesAll};
 
 use crate::apology::unread;
 use crate::connection::serve_by_routes;
@@ -61,8 +61,7 @@ fn serve_accepted<D: Backend, R: Inlet, W: Outlet>(
           held = W.contents writer.new;
           failed = R.failed reader.new || W.failed writer.new;
         }) (D.seen desk.old) (D.seen desk.new) (D.leaves desk.old) (D.leaves desk.new) }
-    ensures ends { IsServed result }
-    ensures told { (D.seen desk.old).refusals ≡ 0 → IsToldIn result (D.seen desk.new).refusals }
+    ensures ended { IsEnded result (D.seen desk.old) (D.seen desk.new) }
 {
     match serve_by_routes(alloc, routes, desk, reader, writer) {
         Ok(_) => Ok(()),
@@ -83,11 +82,9 @@ fn serve_next<D: Backend, L: Listener>(
     desk: &mut D,
     listener: &mut L,
 ) -> Result<(), ServerFault>
-    ensures next { IsNext D.shows D.imports D.begins (L.clients listener.old)
+    ensures { IsNext D.shows D.imports D.begins (L.clients listener.old)
         (L.clients listener.new) (D.seen desk.old) (D.seen desk.new) (D.leaves desk.old)
         (D.leaves desk.new) result }
-    ensures told { (D.seen desk.old).refusals ≡ 0 → IsToldIn result (D.seen desk.new).refusals }
-    ensures at { (L.clients listener.new).at ≡ (L.clients listener.old).at }
 {
     let Ok((mut reader, mut writer)) = listener.accept() else {
         return Err(ServerFault::Accept);
@@ -105,12 +102,9 @@ fn serve_all<D: Backend, L: Listener>(
     listener: &mut L,
     count: u32,
 ) -> Result<(), ServerFault>
-    ensures serves { ServesTo D.shows D.imports D.begins (L.clients listener.old)
-        (L.clients listener.new) (D.seen desk.old) (D.seen desk.new) (D.leaves desk.new) }
-    ensures counted { IsCounted result (L.clients listener.old).accepted
-        (L.clients listener.new).accepted count }
-    ensures told { (D.seen desk.old).refusals ≡ 0 → IsToldIn result (D.seen desk.new).refusals }
-    ensures at { (L.clients listener.new).at ≡ (L.clients listener.old).at }
+    ensures { ServesAll D.shows D.imports D.begins (L.clients listener.old)
+        (L.clients listener.new) (D.seen desk.old) (D.seen desk.new) (D.leaves desk.new) count
+        result }
 {
     for _ in 0..count {
         serve_next(alloc, routes, desk, listener)?;
@@ -126,9 +120,8 @@ fn serve_all<D: Backend, L: Listener>(
 ///   crash finds the state that this leaves, or a 503; only where a call of its streams failed, a
 ///   beginning of it. It leaves the registry as answering its bytes leaves it, or as it was. However
 ///   the server ends, a crash finds what the connections leave; of the last one's requests perhaps
-///   those alone that stand after a fault.
-/// - `counted`: it ends well only once as many connections were accepted as asked for. After a
-///   fault fewer were, or the records failed at the last one.
+///   those alone that stand after a fault. It ends well only once as many were accepted as asked
+///   for; after a fault fewer were, or the records failed at the last one.
 /// - `promised`: what a registry promises after any list of requests holds of those that the
 ///   connections left applied. The bytes of each connection are those that its client sent, where
 ///   the listener tells them.
@@ -148,12 +141,9 @@ pub fn serve<D: Backend, L: Listener, W: Write + Drop>(
         (Appends (writer_contents W.contents writer.old) (writer_contents W.contents writer.new)
         (codes "listening 127.0.0.1:" ++ (decimal port ++ codes "\n"))) }
     ensures flushed { OnOk result (writer_buffer writer.new ≡ []) }
-    ensures serves { ServesTo D.shows D.imports D.begins (L.clients listener.old)
-        (L.clients listener.new) (D.seen desk.old) (D.seen desk.new) (D.leaves desk.new) }
-    ensures counted { IsCounted result (L.clients listener.old).accepted
-        (L.clients listener.new).accepted count }
-    ensures at { (L.clients listener.new).at ≡ (L.clients listener.old).at }
-    ensures told { (D.seen desk.old).refusals ≡ 0 → IsToldIn result (D.seen desk.new).refusals }
+    ensures serves { ServesAll D.shows D.imports D.begins (L.clients listener.old)
+        (L.clients listener.new) (D.seen desk.old) (D.seen desk.new) (D.leaves desk.new) count
+        result }
     ensures promised { ImportsAreRuns D.imports D.begins → IsSound (D.seen desk.old).state
         → (D.seen desk.new).corruptions ≡ 0 → (D.seen desk.new).defects ≡ 0
         → KeepsPromise (L.clients listener.old).sends (L.clients listener.old).accepted

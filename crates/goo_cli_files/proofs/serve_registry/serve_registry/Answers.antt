@@ -1,7 +1,7 @@
 use Rattle.std.proofs.Common.{◌≡◌, ◌∙◌, ap, rules, subst}
 use Rattle.goo_cli_ending.specs.Endings.{status_of}
 use Rattle.goo_cli_ending.specs.declared.ending.Ending.{Ending}
-use Rattle.goo_desk_listener.specs.Clients.{Clients}
+use Rattle.goo_desk_listener.specs.Clients.{Clients, listening_at, loopback}
 use Rattle.goo_registry.specs.Desks.{seen_of}
 use Rattle.goo_desk_backend.specs.Showing.{begun_by, imported_by, shown_by}
 use Rattle.goo_desk_backend.proofs.TableFacts.{imports_are_runs}
@@ -17,12 +17,12 @@ returns-clause-promised g c sound honest sure =
 pub returns-clause-counted : goal.returns-clause-counted
 returns-clause-counted g c =
     counted_from c.ending_of.result c.serve-served.result (g.L.Listener.clients c.args.listener.now).accepted (g.L.Listener.clients c.listen.new.self).accepted (g.L.Listener.clients c.serve-served.new.listener).accepted c.args.serving.count
-    c.ending_of.ensures.value (ap (λ (k : Clients). k.accepted) c.listen.ensures.kept) c.serve-served.ensures.counted
+    c.ending_of.ensures.value (ap (λ (k : Clients). k.accepted) c.listen.ensures.kept) c.serve-served.ensures.serves.counted
 
 pub returns-clause-serves : goal.returns-clause-serves
 returns-clause-serves g c =
     listened shown_by imported_by begun_by (g.L.Listener.clients c.args.listener.now) (g.L.Listener.clients c.listen.new.self) (g.L.Listener.clients c.serve-served.new.listener)
-    (seen_of (g.S.Shelf.seen c.args.registry.now.shelf)) (seen_of (g.S.Shelf.seen c.serve-served.new.desk.shelf)) (g.S.Shelf.seen c.serve-served.new.desk.shelf).leaves c.listen.ensures.kept c.serve-served.ensures.serves
+    (seen_of (g.S.Shelf.seen c.args.registry.now.shelf)) (seen_of (g.S.Shelf.seen c.serve-served.new.desk.shelf)) (g.S.Shelf.seen c.serve-served.new.desk.shelf).leaves c.listen.ensures.kept c.serve-served.ensures.serves.serves
 
 -- where the port can't be had nothing is accepted
 pub returns-then-is_err-clause-counted : goal.returns-then-is_err-clause-counted
@@ -46,10 +46,12 @@ returns-then-is_err-clause-promised g c sound honest sure =
 
 -- all was done: it was told where it listens
 pub returns-clause-announced : goal.returns-clause-announced
-returns-clause-announced g c status = record {
-  at_is = c.serve-served.ensures.at ∙ ap (λ (k : Clients). k.at) (search rules);
-  line = if_done c.serve-served.result _ (subst (λ (e : Ending). status_of e ≡ 0) c.ending_of.ensures.value status) c.serve-served.ensures.announced;
-}
+returns-clause-announced g c status =
+    let listening : g.L.Listener.clients c.listen.new.self ≡ listening_at loopback c.args.serving.port (g.L.Listener.clients c.args.listener.now) = search rules in
+    record {
+      at_is = c.serve-served.ensures.serves.at ∙ ap (λ (k : Clients). k.at) listening;
+      line = if_done c.serve-served.result _ (subst (λ (e : Ending). status_of e ≡ 0) c.ending_of.ensures.value status) c.serve-served.ensures.announced;
+    }
 
 pub returns-clause-flushed : goal.returns-clause-flushed
 returns-clause-flushed g c status = if_done c.serve-served.result _ (subst (λ (e : Ending). status_of e ≡ 0) c.ending_of.ensures.value status) c.serve-served.ensures.flushed
