@@ -1,5 +1,5 @@
 -- A caller who is denied a subject is sent no byte of it.
-use Rattle.std.proofs.Common.{◌≡◌, ◌⊎◌, ◌∙◌, ℕ, false, List, None, Result, Ok, Err, refl, inl, inr, sym, ap, subst}
+use Rattle.std.proofs.Common.{◌≡◌, ◌⊎◌, ◌∙◌, ℕ, false, List, None, Result, Ok, Err, inl, inr, ap, subst}
 use Rattle.goo_spec.specs.State.{State}
 use Rattle.goo_core_reads.specs.declared.denial.Denial.{Denial}
 use Rattle.goo_core_shelf.specs.Desk.{Seen}
@@ -15,7 +15,6 @@ use Rattle.goo_desk_backend.proofs.OneShown.{shown-one}
 use Rattle.goo_desk_backend.specs.Showing.{shown_by, imported_by, begun_by}
 use Rattle.goo_desk_answers.specs.Handling.{handling_of}
 use Rattle.goo_desk_answers.specs.Responds.{Does, Handles, RespondsTo, show_response}
-use Rattle.goo_desk_answers.specs.declared.handling.Handling.{Handling}
 use Rattle.goo_desk_answers.specs.declared.handling.Handling.TheVariants.{Own}
 use Rattle.goo_desk_server.specs.ConnectionServed.{asks_for_head, IsServed, unread_text}
 use Rattle.goo_desk.specs.Denied.{DeniedAreSentNothing, IsDeniedTo, TellsNothing, DeniedSeeNothing}

@@ -19,6 +19,4 @@ pub use goo_desk_server::{
     Inlet, Listener, LocalListener, Outlet, ServeFault, Served, ServerFault, SystemSocket, serve,
     serve_one,
 };
-pub use law::{
-    connections_are_a_run, denied_see_nothing, one_response, own_alone_is_sent,
-};
+pub use law::{connections_are_a_run, denied_see_nothing, one_response, own_alone_is_sent};
