@@ -26,11 +26,11 @@ impl<'a> Listener for Clients<'a> {
     type Output = Lost;
 
     ghost clients = { λ clients. record {
-        accepted = clients.accepted;
-        sends = each_sends clients.text.now;
-        fresh = None;
-        closed = λ _. lost;
-        at = at_port clients.port
+      accepted = clients.accepted;
+      sends = each_sends clients.text.now;
+      fresh = None;
+      closed = λ _. lost;
+      at = at_port clients.port;
     } };
 
     fn listen(&mut self, port: u16) -> Result<()> {
