@@ -1,5 +1,5 @@
 -- What was reported of an import, and what connections left, is found by the next opening.
-use Rattle.std.specs.Prelude.{◌≡◌, ℕ, List, Option}
+use Rattle.std.specs.Prelude.{ℕ, List, Option}
 use Rattle.sqlite_disk.specs.declared.Disk.{Ghosts}
 use Rattle.sqlite_store.specs.FileStore.{recovers}
 use Rattle.sqlite.specs.Tree.{Trees}
@@ -11,11 +11,10 @@ use Rattle.goo_files_streams.specs.Streams.{AppendsPrefix}
 use Rattle.goo_files_import.specs.Durable.{AreUpTo}
 use Rattle.goo_files_import.specs.Import.{importing}
 use Rattle.goo_files_import.specs.Report.{report_text}
-use Rattle.goo_core_shelf.specs.Desk.{Seen}
 use Rattle.goo_store_judge.specs.Moments.{OpensAs}
-use Rattle.goo_cli_files.specs.ServingDurable.{FindsTo}
 use Rattle.goo_cli_registry.specs.Durable.{FindsOneOf}
 use Rattle.goo_cli_registry.specs.declared.closing.Left.{Left}
+use Rattle.goo_cli_registry.specs.declared.closing.Left.TheVariants as left
 
 -- The first rows of a table were imported: all that is written is a beginning of their report, and the next opening finds what they
 -- leave, or what the next row leaves as well.
@@ -32,10 +31,8 @@ MayBeFound (rest.Files files) found = Unit {0}
 MayBeFound (rest.Unopened files) found = Unit {0}
 MayBeFound (rest.Store it) found = (db : Trees) × recovers it db × OpensAs db found
 
--- From this state on connections were served: the next opening finds what they leave; of the last one's requests perhaps those alone that stand
--- after a fault.
-pub record FindsConnections {D : Type 0} {g : Ghosts D} (sends : ℕ → Option (List ℕ)) (was now : ℕ) (s : State) (it : Leftover D g) : Type 0 where
-  pub first : Seen
-  pub last : Seen
-  pub from : first.state ≡ s
-  pub found : FindsTo sends was now first last (MayBeFound it)
+-- what it may find where the log was not copied; what it finds where it was is `promised`
+abbrev pub IsLeftToFind : {D : Type 0} {g : Ghosts D} → Left D g → Option State → Type 0
+IsLeftToFind (left.Parts it) found = MayBeFound it found
+IsLeftToFind (left.Whole files) found = ⊥
+IsLeftToFind (left.Refused it) found = ⊥

@@ -2,4 +2,4 @@ pub mod Imports
 pub mod StoppedImports
 pub mod Durable
 pub mod ServerEndings
-pub mod ServingDurable
+pub mod ServesConnections

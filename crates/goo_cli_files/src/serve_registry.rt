@@ -1,13 +1,12 @@
 //! A registry over any shelf, served over HTTP.
-ghost use Rattle.std.specs.Prelude.{◌≡◌, ◌≢◌};
-ghost use Rattle.std.specs.Io.Buffered.{writer_contents};
-ghost use Rattle.std.specs.Io.KnownBytes.{Appends};
+ghost use Rattle.std.specs.Prelude.{◌≡◌, ◌≢◌, []};
+ghost use Rattle.std.specs.Io.Buffered.{writer_buffer, writer_contents};
 ghost use Rattle.goo_cli_ending.specs.Endings.{status_of};
 ghost use Rattle.goo_spec.specs.Sound.{IsSound};
 ghost use Rattle.goo_desk_server.specs.Runs.{KeepsPromise};
 ghost use Rattle.goo_registry.specs.Desks.{seen_of};
-ghost use Rattle.goo_cli_files.specs.ServingDurable.{FindsServed};
-ghost use Rattle.goo_cli_files.specs.ServerEndings.{ending_of_server, IsCounted, listening_text};
+ghost use Rattle.goo_cli_files.specs.ServesConnections.{IsAnnounced, ServesTo};
+ghost use Rattle.goo_cli_files.specs.ServerEndings.{ending_of_server, IsCounted};
 
 use goo_cli::Serving;
 use goo_cli_ending::{Ending, Failure};
@@ -34,16 +33,11 @@ fn ending_of(served: Result<(), ServerFault>) -> Ending
 /// Serves so many connections of a listener by a registry, one after another. Where the port can't
 /// be had, that is a fault of what is read.
 ///
-/// - `announced`: status 0 only where the line is written that tells at which port.
+/// - `announced`, `flushed`: status 0 only where it listens at that port of this machine, and the
+///   line that tells so is written, with nothing left in the writer's buffer.
 /// - `counted`: status 0 just where as many connections were accepted as asked for, unless the
 ///   records failed at the last one; never more are.
-/// - `promised`: what a registry promises after any list of requests holds of those that the
-///   connections left applied. The bytes of each connection are those that its client sent, where
-///   the listener tells them.
-/// - `corruptions_stay`: what keeps the records returned what was written before, where it did so to
-///   the end.
-/// - `found`: however it ends, a crash finds what the connections leave; of the last one's requests
-///   perhaps those alone that stand after a fault.
+/// - `serves`, `promised`: as of [`serve`].
 pub(crate) fn serve_registry<S: Shelf, L: Listener, W: Write + Drop>(
     alloc: Global,
     registry: &mut Registry<S>,
@@ -53,20 +47,19 @@ pub(crate) fn serve_registry<S: Shelf, L: Listener, W: Write + Drop>(
 ) -> Ending
     ensures words { status_of result ≢ 2 }
     ensures announced { status_of result ≡ 0
-        → Appends (writer_contents W.contents writer.old) (writer_contents W.contents writer.new)
-        (listening_text serving.port) }
-    ensures counted { IsCounted result (L.accepted listener.old)
-        (L.accepted listener.new) serving.count }
-    ensures promised { IsSound (S.seen registry.old.shelf).state
-        → (S.seen registry.new.shelf).corruptions ≡ 0 → (S.seen registry.new.shelf).defects ≡ 0
-        → KeepsPromise (L.sends listener.old) (L.accepted listener.old) (L.accepted listener.new)
-        (S.seen registry.old.shelf).state (S.seen registry.new.shelf).state }
-    ensures corruptions_stay { (S.seen registry.new.shelf).corruptions ≡ 0
-        → (S.seen registry.old.shelf).corruptions ≡ 0 }
-    ensures found { FindsServed (L.sends listener.old) (L.accepted listener.old)
-        (L.accepted listener.new)
+        → IsAnnounced serving.port (L.clients listener.new).at
+        (writer_contents W.contents writer.old) (writer_contents W.contents writer.new) }
+    ensures flushed { status_of result ≡ 0 → writer_buffer writer.new ≡ [] }
+    ensures counted { IsCounted result (L.clients listener.old).accepted
+        (L.clients listener.new).accepted serving.count }
+    ensures serves { ServesTo (L.clients listener.old) (L.clients listener.new)
         (seen_of (S.seen registry.old.shelf)) (seen_of (S.seen registry.new.shelf))
         (S.seen registry.new.shelf).leaves }
+    ensures promised { IsSound (S.seen registry.old.shelf).state
+        → (S.seen registry.new.shelf).corruptions ≡ 0 → (S.seen registry.new.shelf).defects ≡ 0
+        → KeepsPromise (L.clients listener.old).sends (L.clients listener.old).accepted
+        (L.clients listener.new).accepted
+        (S.seen registry.old.shelf).state (S.seen registry.new.shelf).state }
 {
     if listener.listen(serving.port).is_err() {
         return Ending::Failed(Failure::Read);

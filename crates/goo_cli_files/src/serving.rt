@@ -1,7 +1,6 @@
 //! The command `serve`.
-ghost use Rattle.std.specs.Prelude.{◌≡◌, false, IsTrue};
-ghost use Rattle.std.specs.Io.Buffered.{writer_contents};
-ghost use Rattle.std.specs.Io.KnownBytes.{Appends};
+ghost use Rattle.std.specs.Prelude.{◌≡◌, [], false, IsTrue};
+ghost use Rattle.std.specs.Io.Buffered.{writer_buffer, writer_contents};
 ghost use Rattle.sqlite.specs.Files.{image_of, HoldsDatabase};
 ghost use Rattle.sqlite.specs.Held.{state as view};
 ghost use Rattle.sqlite.specs.Tree.{Trees};
@@ -10,12 +9,13 @@ ghost use Rattle.goo_store_opening.specs.Versions.{state_held};
 ghost use Rattle.goo_store_judge.specs.Moments.{moment};
 ghost use Rattle.goo_desk_server.specs.Runs.{KeepsPromise};
 ghost use Rattle.goo_cli_ending.specs.Endings.{status_of};
-ghost use Rattle.goo_cli_files.specs.ServerEndings.{IsCounted, listening_text};
+ghost use Rattle.goo_cli_files.specs.ServerEndings.{IsCounted};
+ghost use Rattle.goo_cli_files.specs.ServesConnections.{IsAnnounced, ServesConnections, ServesNew};
 ghost use Rattle.goo_cli_registry.specs.Closings.{HasSpareLog, HoldsSome, IfRefused, IsClean};
 ghost use Rattle.goo_cli_registry.specs.Closings.{LeavesRegistry};
-ghost use Rattle.goo_cli_registry.specs.Finds.{IfParts};
 ghost use Rattle.goo_cli_registry.specs.Openings.{IsRun};
-ghost use Rattle.goo_cli_files.specs.Durable.{FindsConnections};
+ghost use Rattle.goo_cli_registry.specs.Stopped.{IfOpened};
+ghost use Rattle.goo_cli_files.specs.Durable.{IsLeftToFind};
 
 use crate::serve_registry::serve_registry;
 use goo_cli::{Opening, Serving};
@@ -36,6 +36,8 @@ use std::io::{BufWriter, Write};
 /// - `promised`: what a registry promises after any list of requests holds of the new registry, the
 ///   requests that the connections left applied, and what the database holds then. A fault of the
 ///   records, and want of memory, may have kept the registry from being made.
+/// - `serves`: what each connection was sent, as of `serve` of `goo_desk_server`, by that registry;
+///   or none was accepted.
 pub fn serve_new<S: Alter, L: Listener, W: Write + Drop>(
     alloc: Global,
     conn: Connection<S>,
@@ -46,13 +48,18 @@ pub fn serve_new<S: Alter, L: Listener, W: Write + Drop>(
 ) -> (Ending, Connection<S>)
     requires outside { conn.in_transaction ≡ false }
     ensures announced { status_of result.0 ≡ 0
-        → Appends (writer_contents W.contents writer.old) (writer_contents W.contents writer.new)
-        (listening_text serving.port) }
-    ensures counted { IsCounted result.0 (L.accepted listener.old)
-        (L.accepted listener.new) serving.count }
+        → IsAnnounced serving.port (L.clients listener.new).at
+        (writer_contents W.contents writer.old) (writer_contents W.contents writer.new) }
+    ensures flushed { status_of result.0 ≡ 0 → writer_buffer writer.new ≡ [] }
+    ensures counted { IsCounted result.0 (L.clients listener.old).accepted
+        (L.clients listener.new).accepted serving.count }
+    ensures serves { (moment (view S.Store result.1) false).corruptions ≡ 0
+        → ServesNew (L.clients listener.old) (L.clients listener.new)
+        (created opening.code opening.today opening.next_serial) }
     ensures promised { IsRun result.0 → (moment (view S.Store result.1) false).corruptions ≡ 0
         → (moment (view S.Store result.1) false).defects ≡ 0
-        → KeepsPromise (L.sends listener.old) (L.accepted listener.old) (L.accepted listener.new)
+        → KeepsPromise (L.clients listener.old).sends (L.clients listener.old).accepted
+        (L.clients listener.new).accepted
         (created opening.code opening.today opening.next_serial)
         (moment (view S.Store result.1) false).state }
 {
@@ -70,7 +77,11 @@ pub fn serve_new<S: Alter, L: Listener, W: Write + Drop>(
 /// tells if it is of version 1. What is said holds so long as the files returned what was written,
 /// and `db` is the database that they held.
 ///
-/// - `announced`: status 0 only where the line is written that tells at which port.
+/// - `announced`, `flushed`: status 0 only where it listens at that port of this machine, and the
+///   line that tells so is written, with nothing left in the writer's buffer.
+/// - `serves`: what each connection was sent, as of `serve` of `goo_desk_server`; and where the log
+///   could not be copied, the next opening finds, after a crash too, what the connections leave; of
+///   the last one's requests perhaps those alone that stand after a fault.
 /// - `counted`: status 0 just where as many connections were accepted as asked for, unless the
 ///   records failed at the last one; never more are.
 /// - `promised`: what a registry promises after any list of requests holds of what the files held,
@@ -80,9 +91,6 @@ pub fn serve_new<S: Alter, L: Listener, W: Write + Drop>(
 /// - `unharmed`: where there is no registry, no harm came to what the files held, after a crash
 ///   too: but for a registry of version 1, the same registry in version 2 may be found then.
 /// - `copied`: a log that is said to be copied into the database file is.
-/// - `found`: where the log could not be copied, the next opening finds, after a crash too, what
-///   the connections leave; of the last one's requests perhaps those alone that stand after a
-///   fault.
 pub fn serve_in_files<D: Disk + Drop, L: Listener, W: Write + Drop, E: Write>(
     alloc: Global,
     files: Files<D>,
@@ -95,19 +103,20 @@ pub fn serve_in_files<D: Disk + Drop, L: Listener, W: Write + Drop, E: Write>(
     requires log { IsTrue (D.Disk.is_usable files.log) }
     requires db { IsTrue (D.Disk.is_usable files.db) }
     ensures announced { status_of result.0 ≡ 0
-        → Appends (writer_contents W.contents writer.old) (writer_contents W.contents writer.new)
-        (listening_text serving.port) }
-    ensures counted { IsCounted result.0 (L.accepted listener.old)
-        (L.accepted listener.new) serving.count }
+        → IsAnnounced serving.port (L.clients listener.new).at
+        (writer_contents W.contents writer.old) (writer_contents W.contents writer.new) }
+    ensures flushed { status_of result.0 ≡ 0 → writer_buffer writer.new ≡ [] }
+    ensures counted { IsCounted result.0 (L.clients listener.old).accepted
+        (L.clients listener.new).accepted serving.count }
     ensures promised { IsClean result.1 → (db : Trees) → HoldsDatabase (image_of D.Disk files) db
         → HoldsSome result.1
-        (KeepsPromise (L.sends listener.old) (L.accepted listener.old) (L.accepted listener.new)
-        (state_held db)) }
+        (KeepsPromise (L.clients listener.old).sends (L.clients listener.old).accepted
+        (L.clients listener.new).accepted (state_held db)) }
     ensures unharmed { IsClean result.1 → IfRefused result.1 (LeavesRegistry files) }
     ensures copied { HasSpareLog result.1 }
-    ensures found { IsClean result.1 → (db : Trees) → HoldsDatabase (image_of D.Disk files) db
-        → IfParts result.1 (FindsConnections (L.sends listener.old) (L.accepted listener.old)
-        (L.accepted listener.new) (state_held db)) }
+    ensures serves { IsClean result.1 → (db : Trees) → HoldsDatabase (image_of D.Disk files) db
+        → IfOpened result.1 (ServesConnections (L.clients listener.old) (L.clients listener.new)
+        (state_held db) (IsLeftToFind result.1)) }
 {
     match open_registry(alloc, files, seed, line) {
         Ok(shelf) => {

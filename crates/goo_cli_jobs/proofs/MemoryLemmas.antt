@@ -7,7 +7,9 @@ use Rattle.goo_desk_lines.specs.Fold.{lines}
 use Rattle.goo_cli_ending.specs.declared.ending.Ending.{Ending}
 use Rattle.goo_cli_ending.specs.Endings.{status_of}
 use Rattle.goo_cli_ending.specs.Promised.{KeepsPromise}
-use Rattle.goo_cli_files.specs.ServerEndings.{IsCounted, listening_text}
+use Rattle.goo_desk_listener.specs.Clients.{Clients}
+use Rattle.goo_cli_files.specs.ServerEndings.{IsCounted}
+use Rattle.goo_cli_files.specs.ServesConnections.{IsAnnounced, ServesNew}
 use Rattle.goo_cli_jobs.specs.MemoryWorks.{AreAnsweredInMemory, IsServedInMemory}
 
 module _ (s : State) (read had has : Option (List ℕ)) (told : Ending) where
@@ -20,5 +22,5 @@ module _ (s : State) (read had has : Option (List ℕ)) (told : Ending) where
       go None all_done not_all_done written promised = tt
       go (Some input) all_done not_all_done written promised = record { all_done = all_done; not_all_done = not_all_done; written = written; promised = promised }
 
-  pub served_in_memory : (was now port count : ℕ) → (status_of told ≡ 0 → Appends had has (listening_text port)) → IsCounted told was now count → IsServedInMemory s read had has told was now port count
-  served_in_memory was now port count announced counted = record { announced = announced; counted = counted }
+  pub served_in_memory : (from now : Clients) (port count : ℕ) → (status_of told ≡ 0 → IsAnnounced port now.at had has) → IsCounted told from.accepted now.accepted count → ServesNew from now s → IsServedInMemory s read had has told from now port count
+  served_in_memory from now port count announced counted serves = record { announced = announced; counted = counted; serves = serves }

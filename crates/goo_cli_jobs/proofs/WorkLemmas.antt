@@ -8,17 +8,19 @@ use Rattle.goo_files.specs.Texts.{IsAuditText, IsStatement}
 use Rattle.goo_files.specs.Writes.{Wrote}
 use Rattle.goo_cli_ending.specs.declared.ending.Ending.{Ending}
 use Rattle.goo_cli_registry.specs.Closings.{HoldState, HoldsSome, IfWhole}
-use Rattle.goo_cli_registry.specs.Finds.{HasState, IfParts}
+use Rattle.goo_cli_registry.specs.Finds.{HasState}
 use Rattle.goo_cli_registry.specs.Durable.{FindsAcknowledged}
 use Rattle.goo_cli_registry.specs.Stopped.{HoldsStopped, IfOpened}
 use Rattle.goo_cli_registry.specs.declared.closing.Left.{Left}
 use Rattle.goo_cli_ending.specs.Promised as answer
-use Rattle.goo_cli_files.specs.ServerEndings.{IsCounted, listening_text}
+use Rattle.goo_desk_listener.specs.Clients.{Clients}
+use Rattle.goo_cli_files.specs.ServerEndings.{IsCounted}
+use Rattle.goo_cli_files.specs.ServesConnections.{IsAnnounced, ServesConnections}
 use Rattle.goo_desk_server.specs.Runs as serving
 use Rattle.goo_desk_lines.specs.Fold.{lines}
 use Rattle.goo_cli_ending.specs.Endings.{status_of}
 use Rattle.goo_cli_files.specs.Imports.{DeclaredIn}
-use Rattle.goo_cli_files.specs.Durable.{FindsConnections, FindsImported}
+use Rattle.goo_cli_files.specs.Durable.{FindsImported, IsLeftToFind}
 use Rattle.goo_cli_files.specs.StoppedImports as stopping
 use Rattle.goo_cli_jobs.specs.Works.{AreAnswered, AreImported, IsAudited, IsServed, IsStated}
 
@@ -48,6 +50,6 @@ pub audited : {D : Type 0} {g : Ghosts D} (s : State) (read had has : Option (Li
     → HasState s rest → IsAudited s read had has told rest
 audited s read had has told rest shown silent kept = record { shown = shown; silent = silent; kept = kept }
 
-pub served : {D : Type 0} {g : Ghosts D} (s : State) (read had has : Option (List ℕ)) (told : Ending) (rest : Left D g) (sends : ℕ → Option (List ℕ)) (was now port count : ℕ) → (status_of told ≡ 0 → Appends had has (listening_text port))
-    → IsCounted told was now count → HoldsSome rest (serving.KeepsPromise sends was now s) → IfParts rest (FindsConnections sends was now s) → IsServed s read had has told rest sends was now port count
-served s read had has told rest sends was now port count announced counted promised found = record { announced = announced; counted = counted; promised = promised; found = found }
+pub served : {D : Type 0} {g : Ghosts D} (s : State) (read had has : Option (List ℕ)) (told : Ending) (rest : Left D g) (from now : Clients) (port count : ℕ) → (status_of told ≡ 0 → IsAnnounced port now.at had has)
+    → IsCounted told from.accepted now.accepted count → HoldsSome rest (serving.KeepsPromise from.sends from.accepted now.accepted s) → IfOpened rest (ServesConnections from now s (IsLeftToFind rest)) → IsServed s read had has told rest from now port count
+served s read had has told rest from now port count announced counted promised serves = record { announced = announced; counted = counted; promised = promised; serves = serves }

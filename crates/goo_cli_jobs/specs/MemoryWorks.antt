@@ -8,7 +8,9 @@ use Rattle.goo_cli.specs.declared.task.Opening.{Opening}
 use Rattle.goo_cli_ending.specs.declared.ending.Ending.{Ending}
 use Rattle.goo_cli_ending.specs.Endings.{status_of}
 use Rattle.goo_cli_ending.specs.Promised.{KeepsPromise}
-use Rattle.goo_cli_files.specs.ServerEndings.{IsCounted, listening_text}
+use Rattle.goo_desk_listener.specs.Clients.{Clients}
+use Rattle.goo_cli_files.specs.ServerEndings.{IsCounted}
+use Rattle.goo_cli_files.specs.ServesConnections.{IsAnnounced, ServesNew}
 use Rattle.goo_cli_jobs.specs.declared.memory_work.MemoryWork.{MemoryWork}
 use Rattle.goo_cli_jobs.specs.declared.memory_work.MemoryWork.TheVariants as work
 
@@ -26,12 +28,13 @@ module _ (s : State) (read had has : Option (List ℕ)) (told : Ending) where
     pub written : status_of told < 2 → Appends had has (lines s input).text
     pub promised : KeepsPromise told input s had has (λ t. ⊤)
 
-  -- it was told at which port, and as many connections were accepted as asked for
-  pub record IsServedInMemory (was now port count : ℕ) : Type 0 where
-    pub announced : status_of told ≡ 0 → Appends had has (listening_text port)
-    pub counted : IsCounted told was now count
+  -- it was told at which port, as many connections were accepted as asked for, and a new registry served them
+  pub record IsServedInMemory (from now : Clients) (port count : ℕ) : Type 0 where
+    pub announced : status_of told ≡ 0 → IsAnnounced port now.at had has
+    pub counted : IsCounted told from.accepted now.accepted count
+    pub serves : ServesNew from now s
 
   -- what this work comes to, with the connections that were accepted meanwhile
-  abbrev pub IsWorkedInMemory : ℕ → ℕ → MemoryWork → Type 0
-  IsWorkedInMemory was now work.Run = IfSome read AreAnsweredInMemory
-  IsWorkedInMemory was now (work.Serve serving) = IsServedInMemory was now serving.port serving.count
+  abbrev pub IsWorkedInMemory : Clients → Clients → MemoryWork → Type 0
+  IsWorkedInMemory from now work.Run = IfSome read AreAnsweredInMemory
+  IsWorkedInMemory from now (work.Serve serving) = IsServedInMemory from now serving.port serving.count

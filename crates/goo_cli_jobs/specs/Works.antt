@@ -14,11 +14,13 @@ use Rattle.goo_cli_ending.specs.Endings.{status_of}
 use Rattle.goo_cli_ending.specs.Promised as answered
 use Rattle.goo_cli_registry.specs.declared.closing.Left.{Left}
 use Rattle.goo_cli_registry.specs.Closings.{HoldState, HoldsSome, IfWhole}
-use Rattle.goo_cli_registry.specs.Finds.{HasState, IfParts}
+use Rattle.goo_cli_registry.specs.Finds.{HasState}
 use Rattle.goo_cli_registry.specs.Durable.{FindsAcknowledged}
 use Rattle.goo_cli_registry.specs.Stopped.{HoldsStopped, IfOpened}
-use Rattle.goo_cli_files.specs.ServerEndings.{IsCounted, listening_text}
-use Rattle.goo_cli_files.specs.Durable.{FindsConnections, FindsImported}
+use Rattle.goo_desk_listener.specs.Clients.{Clients}
+use Rattle.goo_cli_files.specs.ServerEndings.{IsCounted}
+use Rattle.goo_cli_files.specs.ServesConnections.{IsAnnounced, ServesConnections}
+use Rattle.goo_cli_files.specs.Durable.{FindsImported, IsLeftToFind}
 use Rattle.goo_cli_files.specs.Imports.{DeclaredIn}
 use Rattle.goo_cli_jobs.specs.MemoryWorks.{asked_in_memory}
 use Rattle.goo_cli_files.specs.StoppedImports as rows
@@ -74,17 +76,17 @@ module _ {D : Type 0} {g : Ghosts D} (s : State) (read had has : Option (List �
     pub kept : HasState s rest
 
   -- it was told at which port, as many connections were accepted as asked for, and what is promised holds of the requests that they left applied;
-  -- the next opening finds what they leave
-  pub record IsServed (sends : ℕ → Option (List ℕ)) (was now port count : ℕ) : Type 0 where
-    pub announced : status_of told ≡ 0 → Appends had has (listening_text port)
-    pub counted : IsCounted told was now count
-    pub promised : HoldsSome rest (served.KeepsPromise sends was now s)
-    pub found : IfParts rest (FindsConnections sends was now s)
+  -- what each was sent, and what the next opening finds of them
+  pub record IsServed (from now : Clients) (port count : ℕ) : Type 0 where
+    pub announced : status_of told ≡ 0 → IsAnnounced port now.at had has
+    pub counted : IsCounted told from.accepted now.accepted count
+    pub promised : HoldsSome rest (served.KeepsPromise from.sends from.accepted now.accepted s)
+    pub serves : IfOpened rest (ServesConnections from now s (IsLeftToFind rest))
 
   -- what this work comes to, from the state that the files held, with the connections that were accepted meanwhile
-  abbrev pub IsWorked : (ℕ → Option (List ℕ)) → ℕ → ℕ → Work → Type 0
-  IsWorked sends was now work.Run = IfSome read AreAnswered
-  IsWorked sends was now work.Declare = IfSome read AreImported
-  IsWorked sends was now (work.Statement account) = IsStated account
-  IsWorked sends was now work.Audit = IsAudited
-  IsWorked sends was now (work.Serve serving) = IsServed sends was now serving.port serving.count
+  abbrev pub IsWorked : Clients → Clients → Work → Type 0
+  IsWorked from now work.Run = IfSome read AreAnswered
+  IsWorked from now work.Declare = IfSome read AreImported
+  IsWorked from now (work.Statement account) = IsStated account
+  IsWorked from now work.Audit = IsAudited
+  IsWorked from now (work.Serve serving) = IsServed from now serving.port serving.count

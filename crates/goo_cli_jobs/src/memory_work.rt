@@ -8,7 +8,7 @@ use crate::serving_memory::serve_in_memory;
 use goo_cli::{Opening, Serving};
 use goo_cli_ending::Ending;
 use goo_cli_registry::running::run_in_memory;
-use goo_desk_server::LocalListener;
+use goo_desk_server::Listener;
 use std::alloc::Global;
 use std::io::{BufWriter, Read, Write};
 
@@ -24,19 +24,19 @@ pub enum MemoryWork {
 /// Does this with a new registry in memory, which is gone when the program ends.
 ///
 /// - `worked`: what is done is what was asked for: for lines what they come to, for connections
-///   that as many were accepted as asked for.
-pub fn work_in_memory<R: Read, W: Write + Drop>(
+///   what each was sent, and that as many were accepted as asked for.
+pub fn work_in_memory<L: Listener, R: Read, W: Write + Drop>(
     alloc: Global,
     opening: Opening,
     work: &MemoryWork,
-    listener: &mut LocalListener<'_>,
+    listener: &mut L,
     reader: &mut R,
     writer: &mut BufWriter<W>,
 ) -> Ending
     ensures worked { IsWorkedInMemory (created opening.code opening.today opening.next_serial)
         (R.remaining reader.old) (writer_contents W.contents writer.old)
-        (writer_contents W.contents writer.new) result listener.old.accepted listener.new.accepted
-        work.now }
+        (writer_contents W.contents writer.new) result (L.clients listener.old)
+        (L.clients listener.new) work.now }
 {
     match work {
         MemoryWork::Run => run_in_memory(alloc, opening, reader, writer),

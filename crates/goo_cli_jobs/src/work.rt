@@ -89,7 +89,7 @@ pub fn job_of<'a>(task: &Invocation<'a>) -> Job<'a>
 ///
 /// - `worked`: what is done is what was asked for: for a statement the account's, for an audit the
 ///   audit's text, for lines and for rows what they come to, for connections what is promised of
-///   their requests, and that as many were accepted as asked for. A statement and an audit leave
+///   their requests, what each was sent, and that as many were accepted as asked for. A statement and an audit leave
 ///   the registry as it was.
 /// - `unharmed`: where there is no registry, no harm came to what the files held, after a crash
 ///   too: but for a registry of version 1, the same registry in version 2 may be found then.
@@ -109,8 +109,8 @@ pub fn work_in_files<D: Disk + Drop, L: Listener, R: Read, W: Write + Drop, T: W
     requires db { IsTrue (D.Disk.is_usable files.db) }
     ensures worked { IsClean result.1 → (db : Trees) → HoldsDatabase (image_of D.Disk files) db
         → IsWorked (state_held db) (R.remaining reader.old) (writer_contents W.contents writer.old)
-        (writer_contents W.contents writer.new) result.0 result.1 (L.sends listener.old)
-        (L.accepted listener.old) (L.accepted listener.new) work.now }
+        (writer_contents W.contents writer.new) result.0 result.1 (L.clients listener.old)
+        (L.clients listener.new) work.now }
     ensures unharmed { IsClean result.1 → IfRefused result.1 (LeavesRegistry files) }
     ensures copied { HasSpareLog result.1 }
 {

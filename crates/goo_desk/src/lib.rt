@@ -16,6 +16,7 @@ pub use goo_desk_lines::{LinesFault, Tally, lines_are_a_run, run_lines};
 pub use goo_desk_responses::Status;
 pub use goo_desk_routes::Routes;
 pub use goo_desk_server::{
-    Listener, LocalListener, ServeFault, Served, ServerFault, serve, serve_one,
+    Inlet, Listener, LocalListener, Outlet, ServeFault, Served, ServerFault, SystemSocket, serve,
+    serve_one,
 };
-pub use law::{connections_are_a_run, denied_see_nothing, one_response};
+pub use law::{connections_are_a_run, denied_see_nothing, one_response, own_alone_is_sent};

@@ -1,6 +1,5 @@
-pub mod ConnectionFacts
-pub mod ConnectionPromiseFacts
-mod ConnectionDurableFacts
+mod ConnectionFacts
+mod ConnectionPromiseFacts
+mod ConnectingFacts
 pub mod Connecting
 pub mod Running
-pub mod Finding

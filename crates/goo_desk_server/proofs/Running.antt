@@ -13,13 +13,14 @@ use Rattle.goo_spec.specs.State.{State}
 use Rattle.goo_spec.specs.Step.{next}
 use Rattle.goo_spec.proofs.Promising.{promised}
 use Rattle.goo_core_shelf.specs.Desk.{Seen}
+use Rattle.goo_desk_listener.specs.Clients.{Clients}
 use Rattle.goo_desk_backend.specs.Backends.{Showing, Importing, Beginning}
 use Rattle.goo_desk_backend.specs.Tables.{ImportsAreRuns}
 use Rattle.goo_desk_answers.specs.Brought.{AreLeft}
 use Rattle.goo_desk_answers.proofs.BroughtFacts.{Leads}
 use Rattle.goo_desk_server.proofs.ConnectionPromiseFacts.{connects_lead}
 use Rattle.goo_desk_server.specs.Runs.{AreHeard, Connection, requests_of, IsRunOf, StepsAreARun, KeepsPromise}
-use Rattle.goo_desk_server.specs.Serving.{Steps, StepsTo}
+use Rattle.goo_desk_server.specs.Serving.{ServesTo, Steps}
 
 final-append : (s : State) (qs rs : List Request) → final s (qs ++ rs) ≡ final (final s qs) rs
 final-append s [] rs = refl
@@ -64,15 +65,15 @@ one_more sends was count old mid new bytes so whole (qs, are, obey, is) =
       obey = subst AllObey (sym more) (All-append (λ q. Obeys q.command) (requests_of before) qs so.obey obey);
     }
 
-module _ (shows : Showing) (imports : Importing) (begins : Beginning) (runs : ImportsAreRuns imports begins) (sends : ℕ → Option (List ℕ)) (was : ℕ) where
-  steps_run : (count : ℕ) (old new : Seen) → Steps shows imports begins sends was count old new → new.corruptions ≡ 0 → new.defects ≡ 0 → Run sends was count old.state new.state
-  steps_run zero old new is honest sure = no_run sends was old.state new.state (ap (λ (m : Seen). m.state) is)
-  steps_run (suc count) old new (mid, so, connects) honest sure =
-      let (bytes, whole, leads) = connects_lead shows imports begins runs (sends (was + count)) mid new honest sure connects in
-      one_more sends was count old.state mid.state new.state bytes (steps_run count old mid so (connects.corruptions_stay honest) (connects.defects_stay sure)) whole leads
+module _ (shows : Showing) (imports : Importing) (begins : Beginning) (runs : ImportsAreRuns imports begins) (clients : Clients) (was : ℕ) where
+  steps_run : (count : ℕ) (old new : Seen) → Steps shows imports begins clients was count old new → new.corruptions ≡ 0 → new.defects ≡ 0 → Run clients.sends was count old.state new.state
+  steps_run zero old new is honest sure = no_run clients.sends was old.state new.state (ap (λ (m : Seen). m.state) is)
+  steps_run (suc count) old new (mid, so, one) honest sure =
+      one_more clients.sends was count old.state mid.state new.state one.bytes (steps_run count old mid so (one.corruptions_stay honest) (one.defects_stay sure)) one.whole
+      (connects_lead shows imports begins runs (clients.sends (was + count)) clients.fresh (clients.closed (was + count)) mid new one honest sure)
 
-  pub steps_promised : (now : ℕ) (old new : Seen) → StepsTo shows imports begins sends was now old new → IsSound old.state → new.corruptions ≡ 0 → new.defects ≡ 0 → KeepsPromise sends was now old.state new.state
-  steps_promised now old new (count, is, steps) sound honest sure =
+  steps_promised : (count now : ℕ) (old new : Seen) → now ≡ was + count → Steps shows imports begins clients was count old new → IsSound old.state → new.corruptions ≡ 0 → new.defects ≡ 0 → KeepsPromise clients.sends was now old.state new.state
+  steps_promised count now old new is steps sound honest sure =
       let so = steps_run count old new steps honest sure in
       record {
         connections = so.run.connections;
@@ -82,5 +83,12 @@ module _ (shows : Showing) (imports : Importing) (begins : Beginning) (runs : Im
         promised = promised old.state new.state (requests_of so.run.connections) so.obey sound so.run.state;
       }
 
+-- what clients send is what it was
+pub serves_promised : (shows : Showing) (imports : Importing) (begins : Beginning) → ImportsAreRuns imports begins → (from now : Clients) (first last : Seen) (leaves : Option State → Type 0) → ServesTo shows imports begins from now first last leaves
+    → IsSound first.state → last.corruptions ≡ 0 → last.defects ≡ 0 → KeepsPromise from.sends from.accepted now.accepted first.state last.state
+serves_promised shows imports begins runs from now first last leaves serves sound honest sure =
+    subst (λ (sends : ℕ → Option (List ℕ)). KeepsPromise sends from.accepted now.accepted first.state last.state) (ap (λ (c : Clients). c.sends) serves.goes_on.kept)
+    (steps_promised shows imports begins runs now from.accepted serves.count now.accepted first last serves.counted serves.steps sound honest sure)
+
 pub steps_are_a_run : (shows : Showing) (imports : Importing) (begins : Beginning) → ImportsAreRuns imports begins → StepsAreARun shows imports begins
-steps_are_a_run shows imports begins runs sends was count old new steps honest sure = (steps_run shows imports begins runs sends was count old new steps honest sure).run
+steps_are_a_run shows imports begins runs clients was count old new steps honest sure = (steps_run shows imports begins runs clients was count old new steps honest sure).run

@@ -1,5 +1,5 @@
 -- What the faults of streams become.
-use Rattle.std.specs.Prelude.{◌≡◌, ℕ, Result, Ok, Err}
+use Rattle.std.specs.Prelude.{◌≡◌, ℕ, Bool, IsTrue, Result, Ok, Err}
 use Rattle.goo_files_streams.specs.declared.InputFault.{InputFault}
 use Rattle.goo_files_streams.specs.declared.InputFault.TheVariants as reading
 use Rattle.goo_desk_server.specs.declared.serve_fault.ServeFault.{ServeFault}
@@ -9,19 +9,10 @@ abbrev pub of_reading : InputFault → ServeFault
 of_reading reading.Read = Read
 of_reading reading.Memory = Memory
 
--- the fault came before anything was answered
-abbrev pub IsBeforeAnswer : ServeFault → Type 0
-IsBeforeAnswer Read = Unit {0}
-IsBeforeAnswer Memory = Unit {0}
-IsBeforeAnswer Write = ⊥
-IsBeforeAnswer Store = ⊥
-
--- the fault came after the request was read
-abbrev pub IsAfterReading : ServeFault → Type 0
-IsAfterReading Read = ⊥
-IsAfterReading Memory = ⊥
-IsAfterReading Write = Unit {0}
-IsAfterReading Store = Unit {0}
+-- a fault of the reader is told only where a call of it failed
+abbrev pub IsOfReader : InputFault → Bool → Type 0
+IsOfReader reading.Read failed = IsTrue failed
+IsOfReader reading.Memory failed = Unit {0}
 
 -- a fault of the store is told just where a call was refused
 abbrev pub IsToldIn : {T : Type 0} → Result T ServeFault → ℕ → Type 0

@@ -1,9 +1,6 @@
--- What a connection is sent, and the state that this leaves.
-use Rattle.std.specs.Prelude.{◌≡◌, ◌⊎◌, ℕ, Bool, List, None, Option, Result, Ok, Err}
-use Rattle.std.specs.Io.KnownBytes.{Appends}
-use Rattle.goo_files_streams.specs.Streams.{AppendsPrefix, IsWholeOf}
-use Rattle.goo_spec.specs.State.{State}
-use Rattle.goo_core_shelf.specs.Desk.{Seen, StaysSure}
+-- What a connection is answered, and the state that this leaves.
+use Rattle.std.specs.Prelude.{◌≡◌, ◌⊎◌, ℕ, Bool, false, List, None, Result, Ok, Err}
+use Rattle.goo_core_shelf.specs.Desk.{Seen}
 use Rattle.goo_desk_heads.specs.Requests.{Decides, Parts, is_for_head}
 use Rattle.goo_desk_heads.specs.declared.request.RefusedHead.{RefusedHead}
 use Rattle.goo_desk_responses.specs.Responses.{response_text, fixed}
@@ -21,40 +18,22 @@ asks_for_head (Err refused) = refused.is_head
 abbrev pub IsApology : List ℕ → List ℕ → Type 0
 IsApology bytes text = (d : Result Parts RefusedHead) × Decides bytes d × (text ≡ response_text (asks_for_head d) (fixed Unavailable None))
 
+-- what is sent where there was no room to read a request
+abbrev pub unread_text : List ℕ
+unread_text = response_text false (fixed Unavailable None)
+
 module _ (shows : Showing) (imports : Importing) (begins : Beginning) where
   -- the response of a status, and the state after it
-  pub record IsAnswered (s : State) (bytes : List ℕ) (status : Status) (text : List ℕ) (new : Seen) : Type 0 where
-    pub response : new.corruptions ≡ 0 → Responds shows imports s bytes status text new.state
+  pub record IsAnswered (old : Seen) (bytes : List ℕ) (status : Status) (text : List ℕ) (new : Seen) : Type 0 where
+    pub response : new.corruptions ≡ 0 → Responds shows imports old.state bytes status text new.state
+    -- nothing of it is left to be done: a crash finds just this state, by `settled` of every desk
+    pub sure : new.corruptions ≡ 0 → old.defects ≡ 0 → new.defects ≡ 0
 
   -- a fault took its place
-  pub record IsExcused (s : State) (bytes : List ℕ) (status : Status) (text : List ℕ) (new : Seen) : Type 0 where
+  pub record IsExcused (old : Seen) (bytes : List ℕ) (status : Status) (text : List ℕ) (new : Seen) : Type 0 where
     pub unavailable : status ≡ Unavailable
     pub text_is : IsApology bytes text
-    pub state : new.defects ≡ 0 → Fails imports begins s bytes new.state
+    pub state : new.defects ≡ 0 → Fails imports begins old.state bytes new.state
 
-  abbrev pub IsServed : State → List ℕ → Status → List ℕ → Seen → Type 0
-  IsServed s bytes status text new = IsAnswered s bytes status text new ⊎ IsExcused s bytes status text new
-
-  -- what answering these bytes leaves, whether or not the answer is sent
-  abbrev pub Leaves : State → List ℕ → Seen → Type 0
-  Leaves s bytes new = (status : Status) × (text : List ℕ) × IsServed s bytes status text new
-
-  -- What a connection leaves, whatever its client does: all as it was, or what answering its bytes leaves, which are those that its reader had, where
-  -- it tells them. No defect and no corruption is forgotten. Only a failed call brings a defect.
-  pub record Connects (known : Option (List ℕ)) (old new : Seen) : Type 0 where
-    pub leaves : (new ≡ old) ⊎ ((bytes : List ℕ) × IsWholeOf known bytes × Leaves old.state bytes new)
-    pub defects_stay : new.defects ≡ 0 → old.defects ≡ 0
-    pub corruptions_stay : new.corruptions ≡ 0 → old.corruptions ≡ 0
-    pub stays : new.corruptions ≡ 0 → old.defects ≡ 0 → StaysSure old new
-
-  -- all of what is answered was written
-  abbrev pub Sends : State → List ℕ → Status → Seen → Option (List ℕ) → Option (List ℕ) → Type 0
-  Sends s bytes status new had has = (text : List ℕ) × IsServed s bytes status text new × Appends had has text
-
-  -- a beginning of it was written
-  abbrev pub SendsPart : State → List ℕ → Seen → Option (List ℕ) → Option (List ℕ) → Type 0
-  SendsPart s bytes new had has = (status : Status) × (text : List ℕ) × IsServed s bytes status text new × AppendsPrefix had has text
-
-  -- what keeps the records failed: a beginning of that was written
-  abbrev pub SendsExcuse : State → List ℕ → Seen → Option (List ℕ) → Option (List ℕ) → Type 0
-  SendsExcuse s bytes new had has = (text : List ℕ) × IsExcused s bytes Unavailable text new × AppendsPrefix had has text
+  abbrev pub IsServed : Seen → List ℕ → Status → List ℕ → Seen → Type 0
+  IsServed old bytes status text new = IsAnswered old bytes status text new ⊎ IsExcused old bytes status text new

@@ -1,8 +1,7 @@
 pub mod ConnectionFaults
 pub mod Reading
 pub mod ConnectionServed
-pub mod ConnectionPromised
-pub mod ConnectionDurable
+pub mod ConnectionEnds
+pub mod Connects
 pub mod Serving
 pub mod Runs
-pub mod Durable

@@ -7,6 +7,7 @@ use Rattle.goo_spec.specs.Promise.{IsPromised}
 use Rattle.goo_spec.specs.Run.{final}
 use Rattle.goo_spec.specs.State.{State}
 use Rattle.goo_core_shelf.specs.Desk.{Seen}
+use Rattle.goo_desk_listener.specs.Clients.{Clients}
 use Rattle.goo_desk_backend.specs.Backends.{Showing, Importing, Beginning}
 use Rattle.goo_desk_answers.specs.Brought.{AreLeft}
 use Rattle.goo_desk_server.specs.Serving.{Steps}
@@ -33,7 +34,7 @@ pub record IsRunOf (sends : ℕ → Option (List ℕ)) (was count : ℕ) (old ne
 
 -- where nothing was corrupted, and while there is no defect
 abbrev pub StepsAreARun : Showing → Importing → Beginning → Type 0
-StepsAreARun shows imports begins = (sends : ℕ → Option (List ℕ)) (was count : ℕ) (old new : Seen) → Steps shows imports begins sends was count old new → new.corruptions ≡ 0 → new.defects ≡ 0 → IsRunOf sends was count old.state new.state
+StepsAreARun shows imports begins = (clients : Clients) (was count : ℕ) (old new : Seen) → Steps shows imports begins clients was count old new → new.corruptions ≡ 0 → new.defects ≡ 0 → IsRunOf clients.sends was count old.state new.state
 
 -- the connections that were accepted meanwhile: what is promised of their requests
 pub record KeepsPromise (sends : ℕ → Option (List ℕ)) (was now : ℕ) (old new : State) : Type 0 where

@@ -2,7 +2,8 @@
 ghost use Rattle.std.specs.Prelude.{◌≡◌};
 ghost use Rattle.goo_desk_heads.specs.Heads.{Begins};
 ghost use Rattle.goo_desk_heads.specs.Requests.{seen as parts_seen};
-ghost use Rattle.goo_desk_server.specs.ConnectionServed.{asks_for_head as asks_stated, IsApology};
+ghost use Rattle.goo_desk_server.specs.ConnectionServed.{asks_for_head as asks_stated};
+ghost use Rattle.goo_desk_server.specs.ConnectionServed.{IsApology, unread_text};
 
 use arrayvec::ArrayString;
 use goo_desk_heads::{Front, Received, RefusedHead, is_for_head, request_in};
@@ -25,4 +26,11 @@ pub(crate) fn apology(bytes: &[u8], front: &Front) -> ArrayString<ROOM>
 {
     let for_head = asks_for_head(&request_in(bytes, front));
     fixed_response(Status::Unavailable, None, for_head)
+}
+
+/// What is sent where there was no room to read a request, whoever asks. It takes no memory.
+pub(crate) fn unread() -> ArrayString<ROOM>
+    ensures { result.bytes ≡ unread_text }
+{
+    fixed_response(Status::Unavailable, None, false)
 }

@@ -5,19 +5,13 @@
 
 mod apology;
 mod connection;
-mod deadline;
-mod listener;
-mod local_listener;
 mod reading;
-mod receiver;
-mod sender;
 mod serve_fault;
 mod server;
 mod server_fault;
 
 pub use connection::{Served, serve_by_routes, serve_one};
-pub use listener::Listener;
-pub use local_listener::LocalListener;
+pub use goo_desk_listener::{Inlet, Listener, LocalListener, Outlet, SystemSocket};
 pub use reading::read_decided;
 pub use serve_fault::ServeFault;
 pub use server::serve;

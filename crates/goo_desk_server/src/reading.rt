@@ -1,12 +1,13 @@
 //! Reading a request until it is decided.
-ghost use Rattle.std.specs.Prelude.{IfOk};
+ghost use Rattle.std.specs.Prelude.{IfErr, IfOk};
 ghost use Rattle.goo_desk_heads.specs.Heads.{Begins};
+ghost use Rattle.goo_desk_server.specs.ConnectionFaults.{IsOfReader};
 ghost use Rattle.goo_desk_server.specs.Reading.{StandsFor};
 
 use goo_desk_heads::{Front, bytes_wanted, front_after};
-use goo_files_streams::{InputFault, read_some};
+use goo_desk_listener::Inlet;
+use goo_files_streams::InputFault;
 use std::alloc::Global;
-use std::io::Read;
 
 /// The most bytes of one read.
 const MOST_READ: usize = 4_096;
@@ -29,10 +30,11 @@ pub struct Arrived {
 /// # Errors
 ///
 /// `Read` where a read fails, `Memory` where there is no room. What was read up to then is lost.
-pub fn read_decided<R: Read>(alloc: Global, reader: &mut R) -> Result<Arrived, InputFault>
+pub fn read_decided<R: Inlet>(alloc: Global, reader: &mut R) -> Result<Arrived, InputFault>
     ensures stands { IfOk result
         (λ arrived. StandsFor (R.remaining reader.old) arrived.bytes.items) }
     ensures front { IfOk result (λ arrived. Begins arrived.bytes.items arrived.front) }
+    ensures failed { IfErr result (λ fault. IsOfReader fault (R.failed reader.new)) }
 {
     let mut bytes = Vec::new(alloc);
     let mut front = Front::Unfinished;
@@ -40,7 +42,7 @@ pub fn read_decided<R: Read>(alloc: Global, reader: &mut R) -> Result<Arrived, I
     while let Some(wanted) = bytes_wanted(&bytes, &front) {
         // Room for all of it at once: a body is copied once.
         bytes.reserve(wanted - bytes.len() + MOST_READ)?;
-        let count = read_some(reader, &mut chunk)?;
+        let count = reader.hear(&mut chunk)?;
         if count == 0 {
             return Ok(Arrived { bytes, front });
         }

@@ -4,8 +4,9 @@ use crate::clients::Clients;
 use crate::failing::{Sending, Taking};
 use crate::wire::{ACCEPTED, AUDIT, OPENING, REPEATED};
 use goo_desk_backend::Backend;
-use goo_desk_server::{ServeFault, Served, serve, serve_one};
+use goo_desk_server::{ServeFault, Served, ServerFault, serve, serve_one};
 use std::alloc::Global;
+use std::io::BufWriter;
 use std::process::Abort;
 
 /// What is sent, and its response or the first line of it.
@@ -73,9 +74,12 @@ pub fn serves_three<D: Backend>(rt: &impl Abort, alloc: Global, desk: &mut D) {
         alloc: alloc,
         text: OPENING.as_bytes(),
         accepted: 0,
+        port: None,
     };
-    let mut told = Vec::new(alloc);
-    let served = serve(alloc, desk, &mut clients, 8347, 3, &mut told);
+    let served = match BufWriter::new(alloc, Vec::new(alloc)) {
+        Ok(mut told) => serve(alloc, desk, &mut clients, 8347, 3, &mut told),
+        Err(_) => Err(ServerFault::Memory),
+    };
     holds(
         rt,
         served == Ok(()) && clients.accepted == 3,

@@ -1,4 +1,5 @@
 //! Clients without sockets.
+use crate::failing::Lost;
 use goo_desk_server::Listener;
 use std::alloc::Global;
 use std::io::{Error, ErrorKind, Result};
@@ -12,28 +13,38 @@ pub struct Clients<'a> {
     pub text: &'a [u8],
     /// How many were accepted.
     pub accepted: u64,
+    /// At which port they find it, if any.
+    pub port: Option<u16>,
 }
 
 impl<'a> Listener for Clients<'a> {
-    ghost use Rattle.goo_tests_desk.specs.Clients.{each_sends};
+    ghost use Rattle.std.specs.Prelude.{None};
+    ghost use Rattle.goo_tests_desk.specs.Clients.{at_port, each_sends, lost};
 
     type Input = &'a [u8];
 
-    type Output = Vec<u8>;
+    type Output = Lost;
 
-    ghost accepted = { λ clients. clients.accepted };
+    ghost clients = { λ clients. record {
+      accepted = clients.accepted;
+      sends = each_sends clients.text.now;
+      fresh = None;
+      closed = λ _. lost;
+      at = at_port clients.port;
+    } };
 
-    ghost sends = { λ clients. each_sends clients.text.now };
-
-    fn listen(&mut self, _port: u16) -> Result<()> {
+    fn listen(&mut self, port: u16) -> Result<()> {
+        self.port = Some(port);
         Ok(())
     }
 
-    fn accept(&mut self) -> Result<(&'a [u8], Vec<u8>)> {
+    fn accept(&mut self) -> Result<(&'a [u8], Lost)> {
         let Some(accepted) = self.accepted.checked_add(1) else {
             return Err(Error::from(ErrorKind::OutOfMemory));
         };
         self.accepted = accepted;
-        Ok((self.text, Vec::new(self.alloc)))
+        Ok((self.text, Lost))
     }
+
+    fn close(&mut self, _input: &'a [u8], _output: Lost) {}
 }

@@ -2,6 +2,8 @@
 use goo_core_shelf::desk::Desk;
 use goo_desk_backend::{Backend, Imported, Shown};
 use goo_desk_routes::Subject;
+use goo_desk_server::{Inlet, Outlet};
+use goo_files_streams::{InputFault, WriteFault, read_some, write_whole};
 use goo_types::fault::Fault;
 use goo_types::holder_code::HolderCode;
 use goo_types::outcome::Outcome;
@@ -35,6 +37,16 @@ impl Read for Sending<'_> {
     }
 }
 
+impl Inlet for Sending<'_> {
+    ghost use Rattle.std.specs.Prelude.{true};
+
+    ghost failed = { λ _. true };
+
+    fn hear(&mut self, buffer: &mut [u8]) -> Result<usize, InputFault> {
+        read_some(self, buffer)
+    }
+}
+
 /// A client that takes one byte a write, and is gone after so many.
 #[derive(Drop)]
 pub struct Taking {
@@ -57,6 +69,40 @@ impl Write for Taking {
 
     fn flush(&mut self) -> io::Result<()> {
         Ok(())
+    }
+}
+
+impl Outlet for Taking {
+    ghost use Rattle.std.specs.Prelude.{true};
+
+    ghost failed = { λ _. true };
+
+    fn send(&mut self, text: &[u8]) -> Result<(), WriteFault> {
+        write_whole(self, text)
+    }
+}
+
+/// A client of which is lost what it takes.
+#[derive(Drop)]
+pub struct Lost;
+
+impl Write for Lost {
+    fn write(&mut self, text: &[u8]) -> io::Result<usize> {
+        Ok(text.len())
+    }
+
+    fn flush(&mut self) -> io::Result<()> {
+        Ok(())
+    }
+}
+
+impl Outlet for Lost {
+    ghost use Rattle.std.specs.Prelude.{true};
+
+    ghost failed = { λ _. true };
+
+    fn send(&mut self, text: &[u8]) -> Result<(), WriteFault> {
+        write_whole(self, text)
     }
 }
 

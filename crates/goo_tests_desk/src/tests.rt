@@ -6,10 +6,10 @@ use crate::trials::{Trial, does, new_registry};
 use crate::wire::{ACCEPTED, APOLOGY, AUDIT, AUDITED_NEW, OPENING, PLANT};
 use goo_desk_backend::Backend;
 use goo_desk_responses::Status;
-use goo_desk_server::{LocalListener, ServeFault, serve, serve_one};
+use goo_desk_server::{LocalListener, ServeFault, SystemSocket, serve, serve_one};
 use goo_types::fault::Fault;
 use std::alloc::Global;
-use std::io::{self, ErrorKind, Write};
+use std::io::{self, BufWriter, ErrorKind, Write};
 use std::net::{Shutdown, TcpListener, TcpStream};
 
 #[test]
@@ -43,10 +43,13 @@ fn asked<D: Backend>(rt: &HostRuntime, desk: &mut D) -> io::Result<(Vec<u8>, Str
     let mut client = TcpStream::connect(rt, address)?;
     client.write_all(AUDIT.as_bytes())?;
     client.shutdown(Shutdown::Write)?;
-    let mut listener = LocalListener::over(rt, socket);
-    let mut told = Vec::new(rt.alloc());
+    let mut listener = LocalListener::new(rt, SystemSocket::over(rt, socket));
+    let mut told = BufWriter::new(rt.alloc(), Vec::new(rt.alloc()))?;
     match serve(rt.alloc(), desk, &mut listener, 8347, 2, &mut told) {
-        Ok(()) => Ok((told, io::read_to_string(rt.alloc(), client)?)),
+        Ok(()) => Ok((
+            told.get_ref().clone()?,
+            io::read_to_string(rt.alloc(), client)?,
+        )),
         Err(_) => Err(io::Error::from(ErrorKind::Other)),
     }
 }

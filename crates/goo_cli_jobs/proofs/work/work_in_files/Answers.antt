@@ -30,4 +30,4 @@ returns-in-Audit-clause-worked g c = λ clean db holds.
 pub returns-in-Serve-clause-worked : goal.returns-in-Serve-clause-worked
 returns-in-Serve-clause-worked g c = λ clean db holds.
     let it = c.serve_in_files.ensures in
-    rw c.in-Serve.is (served (state_held db) (g.R.Read.remaining c.args.reader.now) _ _ c.serve_in_files.result.0 c.serve_in_files.result.1 _ _ _ _ _ it.announced it.counted (it.promised clean db holds) (it.found clean db holds))
+    rw c.in-Serve.is (served (state_held db) (g.R.Read.remaining c.args.reader.now) _ _ c.serve_in_files.result.0 c.serve_in_files.result.1 _ _ _ _ it.announced it.counted (it.promised clean db holds) (it.serves clean db holds))

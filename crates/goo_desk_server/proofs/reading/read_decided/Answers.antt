@@ -19,8 +19,8 @@ returns-then-count-eq0-clause-stands g c =
     let nothing = rw none at c.in_ok-count.ensures.bytes in
     let end = c.in_ok-count.ensures.end none (search rules) in
     let same : c.reserve.new.self.items ≡ c.loop-wanted.bytes.items = search rules in
-    let stays = whole-stands (g.R.Read.remaining c.args.reader.now) (g.R.Read.remaining c.read_some.new.reader) c.loop-wanted.bytes.items
-    (read-nothing (g.R.Read.remaining c.args.reader.now) (g.R.Read.remaining c.loop-wanted.reader) (g.R.Read.remaining c.read_some.new.reader) c.loop-wanted.bytes.items c.loop-wanted.invariant.0 nothing) end in
+    let stays = whole-stands (g.R.Read.remaining c.args.reader.now) (g.R.Read.remaining c.hear.new.self) c.loop-wanted.bytes.items
+    (read-nothing (g.R.Read.remaining c.args.reader.now) (g.R.Read.remaining c.loop-wanted.reader) (g.R.Read.remaining c.hear.new.self) c.loop-wanted.bytes.items c.loop-wanted.invariant.0 nothing) end in
     rw same stays
 
 pub returns-then-count-eq0-clause-front : goal.returns-then-count-eq0-clause-front

@@ -1,25 +1,18 @@
-use Rattle.std.proofs.Common.{rules}
-use Rattle.goo_desk_server.proofs.Connecting.{one_counted, one_step}
-use Rattle.goo_desk_server.proofs.Finding.{one_served, served_so_far}
+use Rattle.std.proofs.Common.{ap, refl}
+use Rattle.goo_desk_listener.specs.Clients.{Clients}
+use Rattle.goo_desk_server.proofs.Connecting.{by_serving}
 use Rattle.goo_desk_server.proofs.server.serve_next.Goals as goal
 
--- the connection's bytes are those of its number
-pub returns-clause-steps : goal.returns-clause-steps
-returns-clause-steps g c =
-    one_step g.D.Backend.shows g.D.Backend.imports g.D.Backend.begins (g.L.Listener.sends c.args.listener.now) _ (g.L.Listener.accepted c.args.listener.now) (g.L.Listener.accepted c.accept.new.self) (g.D.Desk.seen c.args.desk.now)
-    (g.D.Desk.seen c.serve_accepted.new.desk) c.in-Ok.ensures.heard c.in-Ok.ensures.counted c.serve_accepted.ensures.heard
-
-pub returns-clause-counted : goal.returns-clause-counted
-returns-clause-counted g c = one_counted c.serve_accepted.result (g.L.Listener.accepted c.args.listener.now) (g.L.Listener.accepted c.accept.new.self) c.serve_accepted.ensures.ends c.in-Ok.ensures.counted
-
-pub returns-clause-found : goal.returns-clause-found
-returns-clause-found g c was first runs steps before =
-    one_served g.D.Backend.shows g.D.Backend.imports g.D.Backend.begins (g.L.Listener.sends c.args.listener.now) _ was (g.L.Listener.accepted c.args.listener.now) (g.L.Listener.accepted c.accept.new.self) first
-    (g.D.Desk.seen c.args.desk.now) (g.D.Desk.seen c.serve_accepted.new.desk) (g.D.Desk.leaves c.args.desk.now) (g.D.Desk.leaves c.serve_accepted.new.desk) c.in-Ok.ensures.heard c.in-Ok.ensures.counted steps c.serve_accepted.ensures.heard
-    (c.serve_accepted.ensures.crash runs) c.serve_accepted.ensures.shut before
+pub returns : goal.returns
+returns g c =
+    by_serving g.D.Backend.shows g.D.Backend.imports g.D.Backend.begins c.serve_accepted-served.result (g.L.Listener.clients c.args.listener.now) (g.L.Listener.clients c.accept.new.self) (g.L.Listener.clients c.close.new.self) _ _ _
+    (g.D.Desk.seen c.args.desk.now) (g.D.Desk.seen c.serve_accepted-served.new.desk) (g.D.Desk.leaves c.args.desk.now) (g.D.Desk.leaves c.serve_accepted-served.new.desk)
+    c.serve_accepted-served.ensures.ended c.in-Ok.ensures.accepted c.close.ensures c.serve_accepted-served.ensures.latest
 
 -- none was accepted
-pub returns-in_default-clause-found : goal.returns-in_default-clause-found
-returns-in_default-clause-found g c was first runs steps before =
-    served_so_far g.D.Backend.shows g.D.Backend.imports g.D.Backend.begins (g.L.Listener.sends c.args.listener.now) was (g.L.Listener.accepted c.args.listener.now) (g.L.Listener.accepted c.accept.new.self) first
-    (g.D.Desk.seen c.args.desk.now) (g.D.Desk.leaves c.args.desk.now) (search rules) before
+pub returns-in_default : goal.returns-in_default
+returns-in_default g c = record {
+  next = (c.in_default.ensures.none, refl, λ o left. left);
+  at = ap (λ (k : Clients). k.at) c.in_default.ensures.none;
+  told = λ none. none;
+}
