@@ -5,6 +5,7 @@ use Rattle.sqlite_wal.specs.Reads.{AreClean}
 use Rattle.sqlite.specs.declared.file.Leftover.TheVariants as rest
 use Rattle.goo_spec.specs.State.{State}
 use Rattle.goo_spec.specs.Sound.{IsSound}
+use Rattle.goo_core_shelf.specs.Desk.{Seen}
 use Rattle.goo_core_shelf.specs.Shelf.{Moment}
 use Rattle.goo_registry.specs.Desks.{seen_of}
 use Rattle.goo_cli_ending.specs.Runs.{HasState, MayFind, RunsInput}
@@ -19,7 +20,7 @@ use Rattle.goo_cli_registry.specs.declared.closing.Left.{Left}
 use Rattle.goo_cli_registry.specs.declared.closing.Left.TheVariants as left
 
 -- what is told of the state is so where there is no defect
-sure_state : (told : Ending) (new : Rattle.goo_core_shelf.specs.Desk.Seen) (s : State) → HasState told new s → new.defects ≡ 0 → new.state ≡ s
+pub sure_state : (told : Ending) (new : Seen) (s : State) → HasState told new s → new.defects ≡ 0 → new.state ≡ s
 sure_state ending.Done new s is none = is
 sure_state ending.PartlyDone new s is none = is
 sure_state (ending.Denied denial) new s is none = is

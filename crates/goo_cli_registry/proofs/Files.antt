@@ -48,7 +48,7 @@ use Rattle.goo_cli_ending.specs.declared.ending.Failure.TheVariants as failure
 use Rattle.goo_cli_ending.specs.Endings.{failure_of_desk, status_of}
 use Rattle.goo_types.specs.declared.fault.Fault.{Fault}
 use Rattle.goo_types.specs.declared.fault.Fault.TheVariants as desk
-use Rattle.goo_cli_registry.specs.Openings.{ending_of_opening, failure_of_opening, IsBlamed, IsOfOpening, IsRun}
+use Rattle.goo_cli_registry.specs.Openings.{ending_of_opening, failure_of_opening, IsBlamed, IsOfInit, IsOfOpening, IsRun}
 use Rattle.goo_cli_registry.specs.Closings.{HoldRegistry, HoldState, IfRefused, IfWhole, IsClean, IsKept, IsThere, LeavesOr, LeavesRegistry, SparesOrMakes, WasRenewed}
 use Rattle.goo_cli_registry.specs.declared.closing.Left.{Left}
 use Rattle.goo_cli_registry.specs.declared.closing.Left.TheVariants as left
@@ -208,6 +208,19 @@ pub not_refused : {D : Type 0} {g : Ghosts D} (rest : Left D g) (holds : Leftove
 not_refused (left.Whole files) holds none = tt
 not_refused (left.Refused rest) holds none = absurd none
 not_refused (left.Parts rest) holds none = tt
+
+version_init : (b : Bool) (version : ℕ) → IsOfInit (Failed (cond b failure.Damaged (failure.Version version)))
+version_init true version = tt
+version_init false version = tt
+
+-- the words of a registry that was not made
+pub of_init : (fault : OpenFault) (told : Ending) → told ≡ ending_of_opening fault → IsOfInit told
+of_init opening.AlreadyThere told is = subst (λ (e : Ending). IsOfInit e) (sym is) tt
+of_init opening.Memory told is = subst (λ (e : Ending). IsOfInit e) (sym is) tt
+of_init opening.NotARegistry told is = subst (λ (e : Ending). IsOfInit e) (sym is) tt
+of_init (opening.Version version) told is = subst (λ (e : Ending). IsOfInit e) (sym is) (version_init ((version == 1) || (version == 2)) version)
+of_init opening.Damaged told is = subst (λ (e : Ending). IsOfInit e) (sym is) tt
+of_init opening.Store told is = subst (λ (e : Ending). IsOfInit e) (sym is) tt
 
 told_as : (fault : OpenFault) (told : Ending) → told ≡ ending_of_opening fault → status_of told ≡ status_of (ending_of_opening fault)
 told_as fault told is = ap status_of is

@@ -30,8 +30,12 @@ module _ {D : Type 0} {g : Ghosts D} where
   abbrev pub MayOpen : Left D g → State → State → Type 0
   MayOpen rest s t = FindsOneOf s t rest
 
--- no registry was opened, for a reason that is told: nothing was read, and nothing written
-pub record IsUnbegun (told : Ending) (had has before after : Option (List ℕ)) : Type 0 where
+-- no registry was opened, for a reason that is told, and nothing was written
+pub record IsUnopened (told : Ending) (had has : Option (List ℕ)) : Type 0 where
   pub word : IsOfOpening told
   pub silent : Keeps had has
+
+-- nor was anything read
+pub record IsUnbegun (told : Ending) (had has before after : Option (List ℕ)) : Type 0 where
+  pub unopened : IsUnopened told had has
   pub unread : Keeps before after

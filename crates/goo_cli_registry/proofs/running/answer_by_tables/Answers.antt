@@ -25,8 +25,7 @@ returns-in-Ok-clause-words g c = inl c.answer_by-ending.ensures.words
 
 pub returns-in-Err-clause-runs : goal.returns-in-Err-clause-runs
 returns-in-Err-clause-runs g c clean = inr (record {
-  word = of_opening c.in-Err.fault c.failure_of.result c.failure_of.ensures;
-  silent = Keeps-refl _;
+  unopened = record { word = of_opening c.in-Err.fault c.failure_of.result c.failure_of.ensures; silent = Keeps-refl _ };
   unread = Keeps-refl _;
 })
 

@@ -38,7 +38,7 @@ pub returns-in-Ok-clause-refused : goal.returns-in-Ok-clause-refused
 returns-in-Ok-clause-refused g c = not_refused c.close_registry.result _ c.close_registry.ensures.opened
 
 pub returns-in-Err-clause-refused : goal.returns-in-Err-clause-refused
-returns-in-Err-clause-refused g c = record { word = c.in-Err.ensures.word; silent = Keeps-refl _; unread = Keeps-refl _ }
+returns-in-Err-clause-refused g c = record { unopened = record { word = c.in-Err.ensures.word; silent = Keeps-refl _ }; unread = Keeps-refl _ }
 
 pub returns-in-Ok-clause-unharmed : goal.returns-in-Ok-clause-unharmed
 returns-in-Ok-clause-unharmed g c clean = not_refused c.close_registry.result _ c.close_registry.ensures.opened

@@ -17,7 +17,7 @@ returns-clause-sound g c =
     created_is_sound c.args.opening.code c.args.opening.today c.args.opening.next_serial c.get-code.ensures.limit (omega (arith, serial)) (omega (arith, serial))
 
 pub returns-in-Err-clause-runs : goal.returns-in-Err-clause-runs
-returns-in-Err-clause-runs g c = inr (record { word = c.in-Err.ensures.word; silent = Keeps-refl _; unread = Keeps-refl _ })
+returns-in-Err-clause-runs g c = inr (record { unopened = record { word = c.in-Err.ensures.word; silent = Keeps-refl _ }; unread = Keeps-refl _ })
 
 pub returns-in-Err-clause-sound : goal.returns-in-Err-clause-sound
 returns-in-Err-clause-sound g c =
