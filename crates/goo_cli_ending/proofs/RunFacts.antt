@@ -43,7 +43,7 @@ module _ (old new : Seen) (had mid has : Option (List ℕ)) (leaves : Option Sta
     given = whole.given;
     done = it.done;
     left = it.left;
-    lines = inl (whole, it.order);
+    lines = inl (tt, whole, it.order);
     all = λ low. it.all;
     tells = sym it.tally.bad ∙ is_none tally.bad (sym is);
     written = Appends-kept had mid has _ it.written same;
@@ -56,7 +56,7 @@ module _ (old new : Seen) (had mid has : Option (List ℕ)) (leaves : Option Sta
     given = whole.given;
     done = it.done;
     left = it.left;
-    lines = inl (whole, it.order);
+    lines = inl (tt, whole, it.order);
     all = λ low. it.all;
     tells = λ none. is_some tally.bad (sym is) (it.tally.bad ∙ none);
     written = Appends-kept had mid has _ it.written same;
@@ -73,7 +73,7 @@ module _ (old new : Seen) (had mid has : Option (List ℕ)) (leaves : Option Sta
     given = whole.given;
     done = it.done;
     left = it.left;
-    lines = inl (whole, it.order);
+    lines = inl (tt, whole, it.order);
     all = λ low. absurd (omega (arith, low));
     tells = tt;
     written = prefix-whole had has _ (Appends-kept had mid has _ it.written same);
@@ -86,7 +86,7 @@ module _ (old new : Seen) (had mid has : Option (List ℕ)) (leaves : Option Sta
     given = whole.given;
     done = it.done;
     left = it.left;
-    lines = inl (whole, it.order);
+    lines = inl (tt, whole, it.order);
     all = λ low. absurd (omega (arith, low));
     tells = tt;
     written = Appends-kept had mid has _ it.written same;
@@ -99,7 +99,7 @@ module _ (old new : Seen) (had mid has : Option (List ℕ)) (leaves : Option Sta
     given = whole.given;
     done = it.done;
     left = it.left;
-    lines = inl (whole, it.order);
+    lines = inl (tt, whole, it.order);
     all = λ low. absurd (omega (arith, low));
     tells = tt;
     written = Appends-kept had mid has _ it.written same;
@@ -112,7 +112,7 @@ module _ (old new : Seen) (had mid has : Option (List ℕ)) (leaves : Option Sta
     given = whole.given;
     done = it.done;
     left = it.left;
-    lines = inl (whole, it.order);
+    lines = inl (tt, whole, it.order);
     all = λ low. absurd (omega (arith, low));
     tells = tt;
     written = prefix-kept had mid has _ (broken_begins old.state it.done had mid it.written) same;

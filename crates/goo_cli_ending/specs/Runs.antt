@@ -32,6 +32,11 @@ IsTurnedDown (ending.Failed failure.Read) = Unit {0}
 IsTurnedDown (ending.Failed failure.Memory) = Unit {0}
 IsTurnedDown _ = ⊥
 
+-- lines were answered, so the fault is none of the input
+abbrev pub IsRead : Ending → Type 0
+IsRead (ending.Failed failure.Read) = ⊥
+IsRead _ = Unit {0}
+
 -- a desk has this state; after a fault of the records, and where memory was refused, while there is no defect
 abbrev pub HasState : Ending → Seen → State → Type 0
 HasState (ending.Failed failure.Store) new s = new.defects ≡ 0 → new.state ≡ s
@@ -45,7 +50,7 @@ MayFind old leaves s t = old.defects ≡ 0 → FindsEither leaves s t
 module _ (told : Ending) (old : State) (had has : Option (List ℕ)) (Holds : State → Type 0) (Finds : State → State → Type 0) (before after : Option (List ℕ)) where
   -- `done` and then `left` are the lines of an input that was read to its end, within the limit; one that was turned down counts as none
   abbrev pub AreLines : List ℕ → (done left : List (List ℕ)) → Type 0
-  AreLines input done left = (IsWhole before after 16_777_216 input × (lines_of input ≡ done ++ left)) ⊎ (IsTurnedDown told × (done ≡ []) × (left ≡ []))
+  AreLines input done left = (IsRead told × IsWhole before after 16_777_216 input × (lines_of input ≡ done ++ left)) ⊎ (IsTurnedDown told × (done ≡ []) × (left ≡ []))
 
   -- The reader gave an input, all that it has where it tells that and the input was read to its end, and the first of its lines were
   -- answered. What is told and written, the state, the promise and what a crash finds are those of these lines; a crash may find the next

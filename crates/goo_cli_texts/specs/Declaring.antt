@@ -37,11 +37,12 @@ Writes ending.Done had has text = Appends had has text
 Writes ending.PartlyDone had has text = Appends had has text
 Writes _ had has text = AppendsPrefix had has text
 
--- all rows were applied where that is told, and after a fault of the output; none where the header is missing
+-- all rows were applied where that is told, and after a fault of the output; none where the header is missing; a fault of the input comes before
 abbrev pub AreApplied : Ending → List ℕ → (rows upto : List (List (List ℕ))) → Type 0
 AreApplied ending.Done input rows upto = AreRows input rows
 AreApplied ending.PartlyDone input rows upto = AreRows input rows
 AreApplied (ending.Failed failure.Write) input rows upto = AreRows input rows
+AreApplied (ending.Failed failure.Read) input rows upto = ⊥
 AreApplied (ending.Denied denial) input rows upto = LacksHeader input × (rows ≡ []) × (upto ≡ [])
 AreApplied _ input rows upto = Unit {0}
 
