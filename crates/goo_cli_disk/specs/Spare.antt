@@ -1,5 +1,5 @@
--- When the log of two files may go.
-use Rattle.std.specs.Prelude.{◌≡◌, ◌⊎◌, ℕ, [], slice_index}
+-- When the log of two files may go, and what stays of both.
+use Rattle.std.specs.Prelude.{◌≡◌, ◌⊎◌, ℕ, List, [], slice_index, IsTrue}
 use Rattle.sqlite_disk.specs.declared.Disk.{Ghosts}
 use Rattle.sqlite_disk.specs.declared.Files.{Files}
 use Rattle.sqlite_wal.specs.Files.{outcomes}
@@ -20,3 +20,14 @@ IsSpare image = IsUnused image ⊎ ((db : Trees) × HoldsAlone image db)
 -- the log may go, whatever a crash leaves of both files
 abbrev pub NeedNoLog : {D : Type 0} → Ghosts D → Files D → Type 0
 NeedNoLog g files = (image : Image) → outcomes g files.log files.db image → IsSpare image
+
+-- nothing of a file is changed: it reads as before, and a crash leaves nothing of it that it would not have left before
+pub record StaysAs {D : Type 0} (g : Ghosts D) (old new : D) : Type 0 where
+  pub seen : g.seen new ≡ g.seen old
+  pub clean : IsTrue (g.is_clean new) → IsTrue (g.is_clean old)
+  pub crash : (bytes : List ℕ) → g.may_leave new bytes → g.may_leave old bytes
+
+-- the same of the log and of the database file
+pub record StayAs {D : Type 0} (g : Ghosts D) (old : D × D) (new : Files D) : Type 0 where
+  pub log : StaysAs g old.0 new.log
+  pub db : StaysAs g old.1 new.db

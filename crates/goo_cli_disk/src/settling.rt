@@ -3,7 +3,7 @@ ghost use Rattle.std.specs.Prelude.{◌≡◌, ℕ, List, length, slice_index, I
 ghost use Rattle.sqlite_wal.specs.Reads.{AreClean};
 ghost use Rattle.sqlite_wal.specs.Files.{outcomes};
 ghost use Rattle.sqlite_wal.specs.Recovery.{Image};
-ghost use Rattle.goo_cli_disk.specs.Spare.{IsSpare, NeedNoLog};
+ghost use Rattle.goo_cli_disk.specs.Spare.{IsSpare, NeedNoLog, StayAs, StaysAs};
 
 use sqlite::Files;
 use sqlite_disk::Disk;
@@ -25,6 +25,7 @@ fn lasting_len<D: Disk>(log: &mut D) -> Option<usize>
     ensures left { IfSome result
         (λ len. IsTrue (D.Disk.is_clean log.new) → (bytes : List ℕ) → D.Disk.may_leave log.new bytes
         → length bytes ≡ len) }
+    ensures stays { StaysAs D.Disk log.old log.new }
 {
     if !log.may_be_used() {
         return None;
@@ -38,6 +39,7 @@ fn lasting_len<D: Disk>(log: &mut D) -> Option<usize>
 fn is_begun<D: Disk>(db: &mut D) -> bool
     ensures left { IsTrue result → IsTrue (D.Disk.is_clean db.new) → (bytes : List ℕ)
         → D.Disk.may_leave db.new bytes → slice_index bytes 0 ≡ 83 }
+    ensures stays { StaysAs D.Disk db.old db.new }
 {
     if !db.may_be_used() {
         return false;
@@ -53,6 +55,8 @@ fn is_begun<D: Disk>(db: &mut D) -> bool
 fn is_unused<D: Disk>(log: &mut D, db: &mut D) -> bool
     ensures spare { IsTrue result → AreClean D.Disk log.new db.new → (image : Image)
         → outcomes D.Disk log.new db.new image → IsSpare image }
+    ensures log { StaysAs D.Disk log.old log.new }
+    ensures db { StaysAs D.Disk db.old db.new }
 {
     let Some(len) = lasting_len(log) else {
         return false;
@@ -63,10 +67,12 @@ fn is_unused<D: Disk>(log: &mut D, db: &mut D) -> bool
     len < LEAST_LOG && is_begun(db)
 }
 
-/// The files, and whether nothing of their log is used.
+/// The files, and whether nothing of their log is used. Both are read and synced, and nothing is
+/// written.
 pub fn settle_files<D: Disk>(files: Files<D>) -> Settled<D>
     ensures spare { IsTrue result.is_log_spare → AreClean D.Disk result.files.log result.files.db
         → NeedNoLog D.Disk result.files }
+    ensures stays { StayAs D.Disk (files.log, files.db) result.files }
 {
     let Files { mut log, mut db } = files;
     let is_log_spare = is_unused(&mut log, &mut db);

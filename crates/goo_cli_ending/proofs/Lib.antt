@@ -1,4 +1,2 @@
 mod EndingLemmas
-mod StoppedLemmas
-pub mod PromiseFacts
-pub mod DurableFacts
+pub mod RunFacts

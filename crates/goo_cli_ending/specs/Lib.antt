@@ -1,4 +1,3 @@
 pub mod Settings
 pub mod Endings
-pub mod Stopped
-pub mod Promised
+pub mod Runs

@@ -1,5 +1,5 @@
 -- What the next opening finds of a registry into which rows were imported, or that served connections.
-use Rattle.std.proofs.Common.{◌≡◌, subst, inr, ℕ, List, Option, Some, None, IfSome}
+use Rattle.std.proofs.Common.{◌≡◌, inr, ℕ, List, Option}
 use Rattle.sqlite_disk.specs.declared.Disk.{Ghosts}
 use Rattle.sqlite_wal.specs.Reads.{AreClean}
 use Rattle.sqlite.specs.declared.file.Leftover.TheVariants as rest
@@ -13,31 +13,30 @@ use Rattle.goo_desk_server.proofs.Connecting.{serves_fewer}
 use Rattle.goo_cli_files.specs.ServesConnections.{nothing_kept, ServesConnections, ServesNew, ServesTo}
 use Rattle.goo_cli_registry.specs.Closings.{HoldState, IfWhole}
 use Rattle.goo_cli_registry.specs.Finds.{FindsRight, IfParts}
-use Rattle.goo_cli_registry.specs.Stopped.{IfOpened}
 use Rattle.goo_cli_registry.specs.declared.closing.Left.{Left}
 use Rattle.goo_cli_registry.specs.declared.closing.Left.TheVariants.{Parts, Refused, Whole}
-use Rattle.goo_cli_registry.proofs.DurableLemmas.{one_of}
-use Rattle.goo_cli_texts.specs.Durable.{FindsDeclared}
-use Rattle.goo_cli_files.specs.Durable.{FindsImported, IsLeftToFind, MayBeFound}
-use Rattle.goo_cli_files.proofs.Stopping.{opened}
+use Rattle.goo_cli_registry.proofs.DurableLemmas.{in_file, one_of, sure_state}
+use Rattle.goo_cli_ending.specs.Runs.{HasState, MayFind}
+use Rattle.goo_cli_ending.specs.declared.ending.Ending.{Ending}
+use Rattle.goo_cli_registry.specs.Durable.{IfOpened, IsInFile, MayOpen}
+use Rattle.goo_cli_texts.specs.Declaring.{DeclaresRows}
+use Rattle.goo_cli_files.specs.Durable.{IsLeftToFind, MayBeFound}
 
-module _ {D : Type 0} {g : Ghosts D} (of : Left D g) (new : Moment) (whole : IfWhole of (λ files. HoldState g files new.state)) (sure : IfWhole of (λ files. AreClean g files.log files.db → new.defects ≡ 0))
-    (parts : IfParts of (FindsRight new.leaves)) where
-  imported : (input : List ℕ) (s : State) (had has : Option (List ℕ)) → FindsDeclared input s (seen_of new) had has new.leaves → FindsImported of input s had has
-  imported input s had has it = record {
-    rows = it.rows;
-    upto = it.upto;
-    are = it.are;
-    begun = it.begun;
-    found = one_of of _ _ new it.state it.found whole sure parts;
-  }
-
-  -- from the state that the files held
-  pub rows_found : (read : Option (List ℕ)) (seen begun : State) (had has : Option (List ℕ)) → seen ≡ begun → IfSome read (λ input. FindsDeclared input seen (seen_of new) had has new.leaves)
-      → IfSome read (λ input. IfOpened of (FindsImported of input begun had has))
-  rows_found None seen begun had has same it = tt
-  rows_found (Some input) seen begun had has same it =
-      opened of _ (imported input begun had has (subst (λ (s : State). FindsDeclared input s (seen_of new) had has new.leaves) same it))
+-- what a registry over the files says of rows, said of the files
+pub rows_in : {D : Type 0} {g : Ghosts D} (of : Left D g) (told : Ending) (old new : Moment) (had has before after : Option (List ℕ)) → DeclaresRows told old.state had has (HasState told (seen_of new)) (MayFind (seen_of old) new.leaves) before after → old.defects ≡ 0
+    → IfWhole of (λ files. HoldState g files new.state) → IfWhole of (λ files. AreClean g files.log files.db → new.defects ≡ 0) → IfParts of (FindsRight new.leaves) → DeclaresRows told old.state had has (IsInFile of) (MayOpen of) before after
+rows_in of told old new had has before after it none whole sure parts = record {
+  input = it.input;
+  given = it.given;
+  rows = it.rows;
+  upto = it.upto;
+  are = it.are;
+  tells = it.tells;
+  written = it.written;
+  holds = in_file of new _ (sure_state told (seen_of new) _ it.holds) whole sure;
+  promised = it.promised;
+  found = one_of of _ _ new (sure_state told (seen_of new) _ it.holds) (it.found none) whole sure parts;
+}
 
 pub connections_served : {D : Type 0} {g : Ghosts D} (of : Left D g) (from now : Clients) (first : Seen) (new : Moment) (begun : State) → first.state ≡ begun → first.defects ≡ 0 → new.corruptions ≡ 0
     → ServesTo from now first (seen_of new) new.leaves → IfParts of (FindsRight new.leaves) → IfOpened of (ServesConnections from now begun (IsLeftToFind of))

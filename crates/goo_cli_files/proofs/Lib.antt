@@ -1,4 +1,3 @@
 pub mod Served
 mod Begun
-mod Stopping
 mod DurableLemmas

@@ -1,5 +1,3 @@
-pub mod Imports
-pub mod StoppedImports
 pub mod Durable
 pub mod ServerEndings
 pub mod ServesConnections

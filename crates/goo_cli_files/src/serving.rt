@@ -14,7 +14,7 @@ ghost use Rattle.goo_cli_files.specs.ServesConnections.{IsAnnounced, ServesConne
 ghost use Rattle.goo_cli_registry.specs.Closings.{HasSpareLog, HoldsSome, IfRefused, IsClean};
 ghost use Rattle.goo_cli_registry.specs.Closings.{LeavesRegistry};
 ghost use Rattle.goo_cli_registry.specs.Openings.{IsRun};
-ghost use Rattle.goo_cli_registry.specs.Stopped.{IfOpened};
+ghost use Rattle.goo_cli_registry.specs.Durable.{IfOpened};
 ghost use Rattle.goo_cli_files.specs.Durable.{IsLeftToFind};
 
 use crate::serve_registry::serve_registry;

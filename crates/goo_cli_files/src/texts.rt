@@ -1,22 +1,20 @@
 //! The commands `declare`, `statement` and `audit`, over files.
-ghost use Rattle.std.specs.Prelude.{◌≡◌, [], None, IfSome, IsTrue};
+ghost use Rattle.std.specs.Prelude.{◌≡◌, [], None, IsTrue};
 ghost use Rattle.std.specs.FinMap.{get};
 ghost use Rattle.std.specs.Io.Buffered.{writer_buffer, writer_contents};
 ghost use Rattle.std.specs.Io.KnownBytes.{Keeps};
 ghost use Rattle.sqlite.specs.Files.{image_of, HoldsDatabase};
 ghost use Rattle.sqlite.specs.Tree.{Trees};
+ghost use Rattle.goo_spec.specs.Sound.{IsSound};
 ghost use Rattle.goo_store_opening.specs.Versions.{state_held};
 ghost use Rattle.goo_files.specs.Texts.{IsStatement, IsAuditText};
 ghost use Rattle.goo_files.specs.Writes.{Wrote};
 ghost use Rattle.goo_cli_ending.specs.Endings.{status_of};
-ghost use Rattle.goo_cli_registry.specs.Closings.{HasSpareLog, HoldsSome, IfRefused, IsClean};
-ghost use Rattle.goo_cli_registry.specs.Closings.{LeavesRegistry};
+ghost use Rattle.goo_cli_registry.specs.Closings.{HasSpareLog, IfRefused, IsClean, LeavesRegistry};
+ghost use Rattle.goo_cli_registry.specs.Durable.{IfOpened, IsInFile, IsUnbegun, IsUnopened, MayOpen};
 ghost use Rattle.goo_cli_registry.specs.Finds.{HasState};
-ghost use Rattle.goo_cli_registry.specs.Stopped.{IfOpened};
-ghost use Rattle.goo_cli_texts.specs.Promised.{KeepsPromise};
-ghost use Rattle.goo_cli_files.specs.Durable.{FindsImported};
-ghost use Rattle.goo_cli_files.specs.Imports.{DeclaredIn};
-ghost use Rattle.goo_cli_files.specs.StoppedImports.{HoldsStopped};
+ghost use Rattle.goo_cli_texts.specs.Declaring.{DeclaresRows};
+ghost use Rattle.goo_cli_texts.specs.Endings.{IsOfImport, IsOfText};
 
 use goo_cli_ending::Ending;
 use goo_cli_registry::closing::{Left, close_registry};
@@ -35,23 +33,16 @@ use std::io::{BufWriter, Read, Write};
 /// version 1. What is said holds so long as the files returned what was written, and `db` is the
 /// database that they held.
 ///
-/// - `done`: status 0 only where each row was imported and its declaration stands, and status 1
-///   only where one doesn't, but for a file without its header; the whole report is written then,
-///   and the database file alone holds what the rows come to.
-/// - `stopped`: after a fault of the records, and where memory was refused, the first rows stand;
-///   after one of the output all rows do. Where the log could be copied, the file alone holds what
-///   they come to, after a crash too. What was written is a beginning of their report. After one of
-///   the input, and where the header is missing, the registry is as it was, whether or not the log
-///   was copied, and nothing is written.
-/// - `promised`: what a registry promises after any list of requests holds of what the files held,
-///   the requests of the rows that were applied, after a fault of the first ones, and what the file
-///   alone holds then, where the log could be copied.
-/// - `unharmed`: where there is no registry, no harm came to what the files held, after a crash
-///   too: but for a registry of version 1, the same registry in version 2 may be found then.
+/// - `runs`: what the reader gave, and the first of its rows ([`declare`]), from the state that the
+///   files held. The database file alone holds what these rows come to, after a crash too, where the
+///   log could be copied into it; else the next opening finds that, or one row more at most.
+/// - `sound`: what the files held is sound, so that what a registry promises holds of these rows.
+/// - `words`: it ends as an import does.
+/// - `refused`, `unharmed`: where there is no registry, the fault is told, nothing was read or written,
+///   and no harm came to what the files held, after a crash too: but for a registry of version 1, the
+///   same registry in version 2 may be found then.
+/// - `flushed`: with status 0 nothing is left in the writer's buffer.
 /// - `copied`: a log that is said to be copied into the database file is.
-/// - `found`: whatever the status, the rows whose report is written, whole or in part, are first
-///   rows, and the next opening finds them imported, after a crash too, and at most one row more
-///   where the log could not be copied.
 pub fn declare_in_files<D: Disk + Drop, R: Read, W: Write + Drop, T: Write, E: Write>(
     alloc: Global,
     files: Files<D>,
@@ -63,25 +54,20 @@ pub fn declare_in_files<D: Disk + Drop, R: Read, W: Write + Drop, T: Write, E: W
 ) -> (Ending, Left<D>)
     requires log { IsTrue (D.Disk.is_usable files.log) }
     requires db { IsTrue (D.Disk.is_usable files.db) }
-    ensures done { IsClean result.1 → (db : Trees) → HoldsDatabase (image_of D.Disk files) db
-        → IfSome (R.remaining reader.old)
-        (λ input. DeclaredIn (state_held db) input (writer_contents W.contents writer.old)
-        (writer_contents W.contents writer.new) result.0 result.1) }
-    ensures stopped { IsClean result.1 → (db : Trees) → HoldsDatabase (image_of D.Disk files) db
-        → IfSome (R.remaining reader.old)
-        (λ input. IfOpened result.1
-        (HoldsStopped result.1 input (state_held db) (writer_contents W.contents writer.old)
-        (writer_contents W.contents writer.new) result.0)) }
-    ensures flushed { status_of result.0 ≡ 0 → writer_buffer writer.new ≡ [] }
-    ensures promised { IsClean result.1 → (db : Trees) → HoldsDatabase (image_of D.Disk files) db
-        → IfSome (R.remaining reader.old)
-        (λ input. HoldsSome result.1 (KeepsPromise result.0 input (state_held db))) }
+    ensures runs { IsClean result.1 → (db : Trees) → HoldsDatabase (image_of D.Disk files) db
+        → IfOpened result.1 (DeclaresRows result.0 (state_held db)
+        (writer_contents W.contents writer.old) (writer_contents W.contents writer.new)
+        (IsInFile result.1) (MayOpen result.1) (R.remaining reader.old) (R.remaining reader.new)) }
+    ensures sound { IsClean result.1 → (db : Trees) → HoldsDatabase (image_of D.Disk files) db
+        → IfOpened result.1 (IsSound (state_held db)) }
+    ensures words { IfOpened result.1 (IsOfImport result.0) }
+    ensures refused { IfRefused result.1
+        (λ _. IsUnbegun result.0 (writer_contents W.contents writer.old)
+        (writer_contents W.contents writer.new) (R.remaining reader.old)
+        (R.remaining reader.new)) }
     ensures unharmed { IsClean result.1 → IfRefused result.1 (LeavesRegistry files) }
+    ensures flushed { status_of result.0 ≡ 0 → writer_buffer writer.new ≡ [] }
     ensures copied { HasSpareLog result.1 }
-    ensures found { IsClean result.1 → (db : Trees) → HoldsDatabase (image_of D.Disk files) db
-        → IfSome (R.remaining reader.old) (λ input. IfOpened result.1
-        (FindsImported result.1 input (state_held db)
-        (writer_contents W.contents writer.old) (writer_contents W.contents writer.new))) }
 {
     match open_registry(alloc, files, seed, line) {
         Ok(shelf) => {
@@ -104,7 +90,8 @@ pub fn declare_in_files<D: Disk + Drop, R: Read, W: Write + Drop, T: Write, E: W
 /// - `kept`: whatever the status, the registry stays as it was: where the log could be copied, the
 ///   file alone holds what both held, and else the next opening finds it, after a crash too, and
 ///   nothing else.
-/// - `unharmed`: as for [`declare_in_files`].
+/// - `words`: it ends as a text does.
+/// - `refused`, `unharmed`: as for [`declare_in_files`]; nothing is read.
 /// - `copied`: a log that is said to be copied into the database file is.
 pub fn statement_in_files<D: Disk + Drop, W: Write + Drop, E: Write>(
     alloc: Global,
@@ -124,6 +111,10 @@ pub fn statement_in_files<D: Disk + Drop, W: Write + Drop, E: Write>(
         → status_of result.0 ≡ 1 → get (state_held db).accounts account ≡ None }
     ensures silent { IsClean result.1 → status_of result.0 ≡ 1
         → Keeps (writer_contents W.contents writer.old) (writer_contents W.contents writer.new) }
+    ensures words { IfOpened result.1 (IsOfText result.0) }
+    ensures refused { IfRefused result.1
+        (λ _. IsUnopened result.0 (writer_contents W.contents writer.old)
+        (writer_contents W.contents writer.new)) }
     ensures flushed { status_of result.0 ≡ 0 → writer_buffer writer.new ≡ [] }
     ensures kept { IsClean result.1 → (db : Trees) → HoldsDatabase (image_of D.Disk files) db
         → HasState (state_held db) result.1 }
@@ -157,6 +148,10 @@ pub fn audit_in_files<D: Disk + Drop, W: Write + Drop, E: Write>(
         (IsAuditText (state_held db)) }
     ensures silent { IsClean result.1 → status_of result.0 ≡ 1
         → Keeps (writer_contents W.contents writer.old) (writer_contents W.contents writer.new) }
+    ensures words { IfOpened result.1 (IsOfText result.0) }
+    ensures refused { IfRefused result.1
+        (λ _. IsUnopened result.0 (writer_contents W.contents writer.old)
+        (writer_contents W.contents writer.new)) }
     ensures flushed { status_of result.0 ≡ 0 → writer_buffer writer.new ≡ [] }
     ensures kept { IsClean result.1 → (db : Trees) → HoldsDatabase (image_of D.Disk files) db
         → HasState (state_held db) result.1 }

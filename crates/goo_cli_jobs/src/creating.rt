@@ -4,7 +4,7 @@ ghost use Rattle.std.specs.Io.Buffered.{writer_buffer, writer_contents};
 ghost use Rattle.std.specs.Io.KnownBytes.{Appends, Keeps};
 ghost use Rattle.goo_spec.specs.Created.{created};
 ghost use Rattle.goo_cli_ending.specs.Endings.{status_of};
-ghost use Rattle.goo_cli_registry.specs.Openings.{ending_of_opening, ready_text};
+ghost use Rattle.goo_cli_registry.specs.Openings.{ending_of_opening, IsOfInit, ready_text};
 ghost use Rattle.goo_cli_registry.specs.Closings.{HasSpareLog, HoldState, IfWhole, IsClean, IsMade};
 ghost use Rattle.goo_cli_registry.specs.Closings.{Spares, SparesOrMakes, is_whole};
 
@@ -104,6 +104,7 @@ fn announce<D: Disk + Drop, W: Write + Drop>(
         (ready_text code) }
     ensures flushed { status_of result.0 ≡ 0 → writer_buffer writer.new ≡ [] }
     ensures words { status_of result.0 ≢ 1 }
+    ensures told { IsOfInit result.0 }
 {
     let is_whole = left.is_whole();
     if !is_whole {
@@ -122,8 +123,9 @@ fn announce<D: Disk + Drop, W: Write + Drop>(
 /// - `said`, `flushed`: with status 0 `ready` and the code are written, and nothing is left in the
 ///   writer's buffer.
 /// - `unready`: nothing is written before the registry is there.
-/// - `there`: status 1 only where a registry is there already, and then no harm came to what the
-///   files held.
+/// - `there`: status 1 only where the database has tables already, of a registry or of another
+///   program, and then no harm came to what the files held.
+/// - `words`: it ends as the making of a registry does, and never as a misused command line.
 /// - `left`: whatever the status, no harm came to what the files held, or a new registry with these
 ///   three values is there.
 /// - `copied`: a log that is said to be copied into the database file is.
@@ -148,6 +150,7 @@ pub fn init_in_files<D: Disk + Drop, W: Write + Drop>(
     ensures flushed { status_of result.0 ≡ 0 → writer_buffer writer.new ≡ [] }
     ensures there { status_of result.0 ≡ 1 → (result.0 ≡ Ending.Denied NotDone.AlreadyThere)
         × (IsClean result.1 → Spares files result.1) }
+    ensures words { IsOfInit result.0 }
     ensures left { IsClean result.1
         → SparesOrMakes files (created opening.code opening.today opening.next_serial) result.1 }
     ensures copied { HasSpareLog result.1 }

@@ -34,7 +34,7 @@ pub fn work_in_memory<L: Listener, R: Read, W: Write + Drop>(
     writer: &mut BufWriter<W>,
 ) -> Ending
     ensures worked { IsWorkedInMemory (created opening.code opening.today opening.next_serial)
-        (R.remaining reader.old) (writer_contents W.contents writer.old)
+        (R.remaining reader.old) (R.remaining reader.new) (writer_contents W.contents writer.old)
         (writer_contents W.contents writer.new) result (L.clients listener.old)
         (L.clients listener.new) work.now }
 {

@@ -108,9 +108,9 @@ pub fn work_in_files<D: Disk + Drop, L: Listener, R: Read, W: Write + Drop, T: W
     requires log { IsTrue (D.Disk.is_usable files.log) }
     requires db { IsTrue (D.Disk.is_usable files.db) }
     ensures worked { IsClean result.1 → (db : Trees) → HoldsDatabase (image_of D.Disk files) db
-        → IsWorked (state_held db) (R.remaining reader.old) (writer_contents W.contents writer.old)
-        (writer_contents W.contents writer.new) result.0 result.1 (L.clients listener.old)
-        (L.clients listener.new) work.now }
+        → IsWorked (state_held db) (R.remaining reader.old) (R.remaining reader.new)
+        (writer_contents W.contents writer.old) (writer_contents W.contents writer.new) result.0
+        result.1 (L.clients listener.old) (L.clients listener.new) work.now }
     ensures unharmed { IsClean result.1 → IfRefused result.1 (LeavesRegistry files) }
     ensures copied { HasSpareLog result.1 }
 {

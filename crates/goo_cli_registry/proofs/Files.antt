@@ -1,5 +1,5 @@
 -- What files that were opened and closed tell of the database.
-use Rattle.std.proofs.Common.{◌≡◌, ◌⊎◌, ◌≤◌, ◌∙◌, inl, inr, refl, sym, ap, subst, cond, ℕ, List, Option, Some, None, IfSome, arith, Bool, true, false}
+use Rattle.std.proofs.Common.{◌≡◌, ◌⊎◌, ◌≤◌, ◌∙◌, inl, inr, refl, sym, ap, subst, cond, ℕ, List, Option, Some, arith, Bool, true, false}
 use Rattle.std.specs.Prelude.{◌==◌, ◌||◌, IsTrue}
 use Rattle.sqlite_disk.specs.declared.Disk.{Ghosts}
 use Rattle.sqlite_disk.specs.declared.Files.{Files}
@@ -48,8 +48,7 @@ use Rattle.goo_cli_ending.specs.declared.ending.Failure.TheVariants as failure
 use Rattle.goo_cli_ending.specs.Endings.{failure_of_desk, status_of}
 use Rattle.goo_types.specs.declared.fault.Fault.{Fault}
 use Rattle.goo_types.specs.declared.fault.Fault.TheVariants as desk
-use Rattle.goo_desk_lines.specs.Fold.{lines}
-use Rattle.goo_cli_registry.specs.Openings.{ending_of_opening, failure_of_opening, IsBlamed, IsRun}
+use Rattle.goo_cli_registry.specs.Openings.{ending_of_opening, failure_of_opening, IsBlamed, IsOfInit, IsOfOpening, IsRun}
 use Rattle.goo_cli_registry.specs.Closings.{HoldRegistry, HoldState, IfRefused, IfWhole, IsClean, IsKept, IsThere, LeavesOr, LeavesRegistry, SparesOrMakes, WasRenewed}
 use Rattle.goo_cli_registry.specs.declared.closing.Left.{Left}
 use Rattle.goo_cli_registry.specs.declared.closing.Left.TheVariants as left
@@ -80,6 +79,23 @@ not_run (opening.Version version) told = not_run_either ((version == 1) || (vers
 not_run opening.Damaged told = told
 not_run opening.Store told = told
 
+version_word : (b : Bool) (version : ℕ) → IsOfOpening (Failed (cond b failure.Damaged (failure.Version version)))
+version_word true version = tt
+version_word false version = tt
+
+-- the words of an opening
+pub of_opening : (fault : OpenFault) (told : Failure) → told ≡ failure_of_opening fault → IsOfOpening (Failed told)
+of_opening opening.Memory told is = subst (λ (f : Failure). IsOfOpening (Failed f)) (sym is) tt
+of_opening opening.AlreadyThere told is = subst (λ (f : Failure). IsOfOpening (Failed f)) (sym is) tt
+of_opening opening.NotARegistry told is = subst (λ (f : Failure). IsOfOpening (Failed f)) (sym is) tt
+of_opening (opening.Version version) told is = subst (λ (f : Failure). IsOfOpening (Failed f)) (sym is) (version_word ((version == 1) || (version == 2)) version)
+of_opening opening.Damaged told is = subst (λ (f : Failure). IsOfOpening (Failed f)) (sym is) tt
+of_opening opening.Store told is = subst (λ (f : Failure). IsOfOpening (Failed f)) (sym is) tt
+
+pub of_files : (fault : Fault) (told : Failure) → told ≡ failure_of_desk fault → IsOfOpening (Failed told)
+of_files desk.Store told is = subst (λ (f : Failure). IsOfOpening (Failed f)) (sym is) tt
+of_files desk.Memory told is = subst (λ (f : Failure). IsOfOpening (Failed f)) (sym is) tt
+
 -- what corrupted nothing in the end corrupted nothing before
 pub clean_before : (a b : Bool) → doubt a ≤ doubt b → b ≡ true → doubt a ≡ 0
 clean_before a b rises clean = omega (arith, rises, honest b clean)
@@ -106,16 +122,6 @@ pub whole_as : {D : Type 0} {g : Ghosts D} (rest : Left D g) (seen : State) (s t
 whole_as (left.Whole files) seen s t clean same holds = λ sure. subst (HoldRegistry _ files) (same (clean sure)) (holds sure)
 whole_as (left.Refused rest) seen s t clean same holds = tt
 whole_as (left.Parts rest) seen s t clean same holds = tt
-
-kept_in : {D : Type 0} {g : Ghosts D} (rest : Left D g) (s t : registry.State) → s ≡ t → IfWhole rest (λ files. HoldState g files s) → IfWhole rest (λ files. HoldState g files t)
-kept_in (left.Whole files) s t same holds = λ sure. subst (HoldRegistry _ files) same (holds sure)
-kept_in (left.Refused rest) s t same holds = tt
-kept_in (left.Parts rest) s t same holds = tt
-
--- what the lines come to is held
-pub kept_begun : {D : Type 0} {g : Ghosts D} (rest : Left D g) (read : Option (List ℕ)) (s seen begun : registry.State) → seen ≡ begun → IfSome read (λ input. s ≡ (lines seen input).state) → IfWhole rest (λ files. HoldState g files s) → IfSome read (λ input. IfWhole rest (λ files. HoldState g files (lines begun input).state))
-kept_begun rest None s seen begun same told holds = tt
-kept_begun rest (Some input) s seen begun same told holds = kept_in rest s (lines begun input).state (told ∙ ap (λ (m : registry.State). (lines m input).state) same) holds
 
 -- what was committed last opens as the state that is seen
 pub opens_committed : (s : State) → IsWell s → defects s ≡ 0 → OpensAs s.committed.trees (Some (state_of (tables_in s)))
@@ -202,6 +208,19 @@ pub not_refused : {D : Type 0} {g : Ghosts D} (rest : Left D g) (holds : Leftove
 not_refused (left.Whole files) holds none = tt
 not_refused (left.Refused rest) holds none = absurd none
 not_refused (left.Parts rest) holds none = tt
+
+version_init : (b : Bool) (version : ℕ) → IsOfInit (Failed (cond b failure.Damaged (failure.Version version)))
+version_init true version = tt
+version_init false version = tt
+
+-- the words of a registry that was not made
+pub of_init : (fault : OpenFault) (told : Ending) → told ≡ ending_of_opening fault → IsOfInit told
+of_init opening.AlreadyThere told is = subst (λ (e : Ending). IsOfInit e) (sym is) tt
+of_init opening.Memory told is = subst (λ (e : Ending). IsOfInit e) (sym is) tt
+of_init opening.NotARegistry told is = subst (λ (e : Ending). IsOfInit e) (sym is) tt
+of_init (opening.Version version) told is = subst (λ (e : Ending). IsOfInit e) (sym is) (version_init ((version == 1) || (version == 2)) version)
+of_init opening.Damaged told is = subst (λ (e : Ending). IsOfInit e) (sym is) tt
+of_init opening.Store told is = subst (λ (e : Ending). IsOfInit e) (sym is) tt
 
 told_as : (fault : OpenFault) (told : Ending) → told ≡ ending_of_opening fault → status_of told ≡ status_of (ending_of_opening fault)
 told_as fault told is = ap status_of is

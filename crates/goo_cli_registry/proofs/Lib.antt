@@ -1,5 +1,3 @@
 pub mod Files
-mod RunLemmas
 pub mod DurableLemmas
-mod StoppedLemmas
 pub mod Finding

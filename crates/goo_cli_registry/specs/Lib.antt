@@ -1,6 +1,5 @@
 pub mod Durable
 pub mod Openings
 pub mod Closings
-pub mod Stopped
 pub mod Finds
 pub mod Bytes

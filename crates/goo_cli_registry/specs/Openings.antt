@@ -47,6 +47,38 @@ ending_of_opening opening.Store = ending.Failed failure.Store
 abbrev pub ready_text : ℕ → List ℕ
 ready_text code = codes "ready " ++ (48 + code / 10) ∷ (48 + code % 10) ∷ codes "\n"
 
+-- what is told where no registry was opened
+abbrev pub IsOfOpening : Ending → Type 0
+IsOfOpening ending.Done = ⊥
+IsOfOpening ending.PartlyDone = ⊥
+IsOfOpening (ending.Denied denial) = ⊥
+IsOfOpening (ending.Words error) = ⊥
+IsOfOpening (ending.Misused reason) = ⊥
+IsOfOpening (ending.Failed failure.Read) = ⊥
+IsOfOpening (ending.Failed failure.Write) = ⊥
+IsOfOpening (ending.Failed failure.Store) = Unit {0}
+IsOfOpening (ending.Failed failure.Memory) = Unit {0}
+IsOfOpening (ending.Failed failure.NotARegistry) = Unit {0}
+IsOfOpening (ending.Failed (failure.Version version)) = Unit {0}
+IsOfOpening (ending.Failed failure.Damaged) = Unit {0}
+
+-- how the making of a registry may end
+abbrev pub IsOfInit : Ending → Type 0
+IsOfInit ending.Done = Unit {0}
+IsOfInit ending.PartlyDone = ⊥
+IsOfInit (ending.Denied denial.AlreadyThere) = Unit {0}
+IsOfInit (ending.Denied denial.UnknownAccount) = ⊥
+IsOfInit (ending.Denied denial.Header) = ⊥
+IsOfInit (ending.Words error) = ⊥
+IsOfInit (ending.Misused reason) = ⊥
+IsOfInit (ending.Failed failure.Read) = ⊥
+IsOfInit (ending.Failed failure.Write) = Unit {0}
+IsOfInit (ending.Failed failure.Store) = Unit {0}
+IsOfInit (ending.Failed failure.Memory) = Unit {0}
+IsOfInit (ending.Failed failure.NotARegistry) = Unit {0}
+IsOfInit (ending.Failed (failure.Version version)) = Unit {0}
+IsOfInit (ending.Failed failure.Damaged) = Unit {0}
+
 -- what is told only of lines that were answered by a registry, or of the streams that they came and went by
 abbrev pub IsRun : Ending → Type 0
 IsRun ending.Done = Unit {0}

@@ -5,7 +5,8 @@ ghost use Rattle.sqlite.specs.State.{HasCleanDisk};
 ghost use Rattle.sqlite_wal.specs.Reads.{AreClean};
 ghost use Rattle.goo_cli_registry.specs.Closings.{is_whole, files_in, HasSpareLog, IfWhole};
 ghost use Rattle.goo_cli_registry.specs.Closings.{IfRefused, IsClean, IsKept, HoldState};
-ghost use Rattle.goo_cli_disk.specs.Spare.{NeedNoLog};
+ghost use Rattle.goo_cli_disk.specs.Spare.{NeedNoLog, StayAs};
+ghost use Rattle.goo_spec.specs.State.{State};
 ghost use Rattle.goo_store.specs.Seen.{seen_by};
 ghost use Rattle.goo_cli_registry.specs.Finds.{FindsRight, IfParts};
 
@@ -53,10 +54,16 @@ impl<D: Disk> Left<D> {
     ///
     /// - `spare`: the log may go only where the database file alone holds what both hold, after a
     ///   crash too, so long as the files returned what was written.
+    /// - `stays`: both files read as the command left them, and a crash leaves nothing of them that it
+    ///   would not have left before; so the next opening finds what it would have found.
+    /// - `held`: a state that the database file alone held is still in it.
     pub fn settle(self) -> Settled<D>
         requires copied { HasSpareLog self }
         ensures spare { IsTrue result.is_log_spare
             → AreClean D.Disk result.files.log result.files.db → NeedNoLog D.Disk result.files }
+        ensures stays { StayAs D.Disk (files_in self) result.files }
+        ensures held { (s : State) → IfWhole self (λ files. HoldState D.Disk files s)
+            → IfWhole self (λ _. HoldState D.Disk result.files s) }
     {
         match self {
             Left::Whole(files) => Settled {

@@ -15,7 +15,9 @@ ghost use Rattle.goo_spec.specs.Created.{created};
 ghost use Rattle.goo_spec.specs.Sound.{IsSound};
 ghost use Rattle.goo_spec.specs.State.{State};
 ghost use Rattle.goo_cli_registry.specs.Closings.{LeavesRegistry};
-ghost use Rattle.goo_cli_registry.specs.Openings.{failure_of_opening, IsBlamed, MayBegin};
+ghost use Rattle.goo_cli_registry.specs.Openings.{failure_of_opening, IsBlamed, IsOfOpening};
+ghost use Rattle.goo_cli_registry.specs.Openings.{MayBegin};
+ghost use Rattle.goo_cli_ending.specs.declared.ending.Ending.TheVariants.{Failed};
 
 use crate::renewal_line::RenewalLine;
 use goo_cli::Opening;
@@ -166,6 +168,7 @@ pub fn open_registry<D: Disk + Drop, T: Write>(
     ensures never_foreign { IfErr result
         (λ e. IsCleanLeft e.1 → (db : Trees) → HoldsDatabase (image_of D.Disk files) db
         → (s t : State) → OpensAsEither db s t → (e.0 ≡ Failure.Store) ⊎ (e.0 ≡ Failure.Memory)) }
+    ensures word { IfErr result (λ e. IsOfOpening (Failed e.0)) }
     ensures unharmed { IfErr result (λ e. IsCleanLeft e.1 → LeavesRegistry files e.1) }
 {
     match open_database(alloc, files, file_options(seed)) {

@@ -1,5 +1,3 @@
 mod Texts
 mod Callers
-mod PromiseFacts
-mod Stopping
-mod DurableFacts
+mod Declares

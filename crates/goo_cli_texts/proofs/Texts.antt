@@ -2,7 +2,7 @@
 use Rattle.std.proofs.Common.{arith, refl, ◌≡◌, ◌∙◌, ℕ, List, Bool, true, false, true≢false, Result, Ok, Err, Option, Some, None, is_ok, OnOk, IsTrue}
 use Rattle.std.specs.Io.KnownBytes.{Appends, Keeps}
 use Rattle.goo_core_shelf.specs.Shelf.{Moment}
-use Rattle.goo_spec.specs.State.{State, Account}
+use Rattle.goo_spec.specs.State.{Account}
 use Rattle.goo_spec.specs.Checks.{issuer}
 use Rattle.goo_core_reads.specs.declared.denial.Denial.{Denial}
 use Rattle.goo_registry.specs.Reads.{account_denial}
@@ -11,14 +11,8 @@ use Rattle.goo_files.specs.declared.text_fault.ShowFault.TheVariants as text
 use Rattle.goo_files.specs.Writes.{Writes, Wrote}
 use Rattle.goo_files_import.specs.declared.cause.Cause.{Cause}
 use Rattle.goo_files_import.specs.declared.cause.Cause.TheVariants as cause
-use Rattle.goo_files_import.specs.declared.row_result.RowResult.{RowResult}
-use Rattle.goo_files_import.specs.Report.{report_text}
-use Rattle.goo_files_import.specs.Stands.{IsImported}
-use Rattle.goo_cli_ending.specs.declared.ending.Ending.{Ending}
-use Rattle.goo_cli_ending.specs.declared.ending.Ending.TheVariants as ending
 use Rattle.goo_cli_ending.specs.Endings.{status_of}
-use Rattle.goo_cli_texts.specs.Endings.{all_stand, ending_of_import, ending_of_text}
-use Rattle.goo_cli_texts.specs.Declaring.{Finishes, IsDeclared}
+use Rattle.goo_cli_texts.specs.Endings.{ending_of_import, ending_of_text, IsOfImport, IsOfText}
 
 -- what was appended stands behind what was there, after a flush too
 kept : (had between has : Option (List ℕ)) (text : List ℕ) → Appends had between text → Keeps between has → Appends had has text
@@ -79,20 +73,6 @@ flushed Holds (Err text.Write) out (Err e) same told status = absurd (omega (ari
 flushed Holds (Err text.Store) out (Err e) same told status = absurd (omega (arith, status))
 flushed Holds (Err text.Memory) out (Err e) same told status = absurd (omega (arith, status))
 
--- a report that was sent
-module _ (rows : List RowResult) (had has : Option (List ℕ)) where
-  sent : (all out : Bool) → all_stand rows ≡ all → (IsTrue out → Appends had has (report_text rows)) → Finishes None rows had has (ending_of_import None all out)
-  sent all false same written = tt
-  sent true true same written = record { unstopped = refl; written = written refl; stand = same }
-  sent false true same written = record { unstopped = refl; written = written refl; stand = same }
-
-  pub finished : (why : Option Cause) (out : Bool) → (IsTrue out → Appends had has (report_text rows)) → Finishes why rows had has (ending_of_import why (all_stand rows) out)
-  finished None out written = sent (all_stand rows) out refl written
-  finished (Some cause.Header) out written = tt
-  finished (Some cause.Read) out written = tt
-  finished (Some cause.Store) out written = tt
-  finished (Some cause.Memory) out written = tt
-
 pub emptied : (Holds : Type 0) (why : Option Cause) (all out : Bool) → (IsTrue out → Holds) → status_of (ending_of_import why all out) ≡ 0 → Holds
 emptied Holds None all true told status = told refl
 emptied Holds None all false told status = absurd (omega (arith, status))
@@ -101,19 +81,21 @@ emptied Holds (Some cause.Read) all out told status = absurd (omega (arith, stat
 emptied Holds (Some cause.Store) all out told status = absurd (omega (arith, status))
 emptied Holds (Some cause.Memory) all out told status = absurd (omega (arith, status))
 
-module _ (input : List ℕ) (old new : State) (had has : Option (List ℕ)) (rows : List RowResult) where
-  pub imported : (told : Ending) → IsImported issuer input old new rows → Finishes None rows had has told → IsDeclared input old new had has told
-  imported ending.Done import sent = record { rows = rows; imported = import; written = sent.written; stand = sent.stand }
-  imported ending.PartlyDone import sent = record { rows = rows; imported = import; written = sent.written; stand = sent.stand }
-  imported (ending.Denied why) import sent = tt
-  imported (ending.Words error) import sent = tt
-  imported (ending.Misused reason) import sent = tt
-  imported (ending.Failed why) import sent = tt
+-- how a text, and an import, may end
+pub of_text : (written : Result (Unit {0}) ShowFault) (out : Bool) → IsOfText (ending_of_text written out)
+of_text (Ok done) true = tt
+of_text (Ok done) false = tt
+of_text (Err text.NotAllowed) out = tt
+of_text (Err text.Unknown) out = tt
+of_text (Err text.Write) out = tt
+of_text (Err text.Store) out = tt
+of_text (Err text.Memory) out = tt
 
-  pub stopped : (told : Ending) (why : Cause) → Finishes (Some why) rows had has told → IsDeclared input old new had has told
-  stopped ending.Done why sent = absurd (cc sent.unstopped)
-  stopped ending.PartlyDone why sent = absurd (cc sent.unstopped)
-  stopped (ending.Denied told) why sent = tt
-  stopped (ending.Words error) why sent = tt
-  stopped (ending.Misused reason) why sent = tt
-  stopped (ending.Failed told) why sent = tt
+pub of_import : (why : Option Cause) (all out : Bool) → IsOfImport (ending_of_import why all out)
+of_import None all false = tt
+of_import None true true = tt
+of_import None false true = tt
+of_import (Some cause.Header) all out = tt
+of_import (Some cause.Read) all out = tt
+of_import (Some cause.Store) all out = tt
+of_import (Some cause.Memory) all out = tt

@@ -42,3 +42,37 @@ ending_of_import (Some cause.Memory) all out = ending.Failed failure.Memory
 ending_of_import None all false = ending.Failed failure.Write
 ending_of_import None true true = ending.Done
 ending_of_import None false true = ending.PartlyDone
+
+-- how an import may end
+abbrev pub IsOfImport : Ending → Type 0
+IsOfImport ending.Done = Unit {0}
+IsOfImport ending.PartlyDone = Unit {0}
+IsOfImport (ending.Denied denial.Header) = Unit {0}
+IsOfImport (ending.Denied denial.AlreadyThere) = ⊥
+IsOfImport (ending.Denied denial.UnknownAccount) = ⊥
+IsOfImport (ending.Words error) = ⊥
+IsOfImport (ending.Misused reason) = ⊥
+IsOfImport (ending.Failed failure.Store) = Unit {0}
+IsOfImport (ending.Failed failure.Memory) = Unit {0}
+IsOfImport (ending.Failed failure.Read) = Unit {0}
+IsOfImport (ending.Failed failure.Write) = Unit {0}
+IsOfImport (ending.Failed failure.NotARegistry) = ⊥
+IsOfImport (ending.Failed (failure.Version version)) = ⊥
+IsOfImport (ending.Failed failure.Damaged) = ⊥
+
+-- how a text may end
+abbrev pub IsOfText : Ending → Type 0
+IsOfText ending.Done = Unit {0}
+IsOfText ending.PartlyDone = ⊥
+IsOfText (ending.Denied denial.UnknownAccount) = Unit {0}
+IsOfText (ending.Denied denial.AlreadyThere) = ⊥
+IsOfText (ending.Denied denial.Header) = ⊥
+IsOfText (ending.Words error) = ⊥
+IsOfText (ending.Misused reason) = ⊥
+IsOfText (ending.Failed failure.Store) = Unit {0}
+IsOfText (ending.Failed failure.Memory) = Unit {0}
+IsOfText (ending.Failed failure.Read) = ⊥
+IsOfText (ending.Failed failure.Write) = Unit {0}
+IsOfText (ending.Failed failure.NotARegistry) = ⊥
+IsOfText (ending.Failed (failure.Version version)) = ⊥
+IsOfText (ending.Failed failure.Damaged) = ⊥

@@ -1,17 +1,14 @@
 //! The command `declare`.
-ghost use Rattle.std.specs.Prelude.{◌≡◌, [], IfSome, IsTrue};
+ghost use Rattle.std.specs.Prelude.{◌≡◌, [], IsTrue};
 ghost use Rattle.std.specs.Io.Buffered.{writer_buffer, writer_contents};
 ghost use Rattle.std.specs.Io.KnownBytes.{Appends};
 ghost use Rattle.goo_files_import.specs.Report.{report_text};
 ghost use Rattle.goo_files_streams.specs.Streams.{AppendsPrefix};
 ghost use Rattle.goo_registry.specs.Desks.{seen_of};
 ghost use Rattle.goo_cli_ending.specs.Endings.{status_of};
-ghost use Rattle.goo_cli_texts.specs.Endings.{all_stand, ending_of_import, stands};
-ghost use Rattle.goo_cli_texts.specs.Declaring.{EndsBy, Finishes, IsDeclared};
-ghost use Rattle.goo_cli_texts.specs.Durable.{FindsDeclared};
-ghost use Rattle.goo_cli_texts.specs.Stopped.{IsStopped};
-ghost use Rattle.goo_cli_texts.specs.Promised.{KeepsPromise};
-ghost use Rattle.goo_spec.specs.Sound.{IsSound};
+ghost use Rattle.goo_cli_ending.specs.Runs.{HasState, MayFind};
+ghost use Rattle.goo_cli_texts.specs.Endings.{all_stand, ending_of_import, IsOfImport, stands};
+ghost use Rattle.goo_cli_texts.specs.Declaring.{DeclaresRows, Sends};
 
 use crate::issuer::issuer;
 use crate::progress_line::ProgressLine;
@@ -72,11 +69,9 @@ fn finish<W: Write + Drop>(
     cause: Option<Cause>,
     writer: &mut BufWriter<W>,
 ) -> Ending
-    ensures ends { EndsBy cause result }
-    ensures begun { AppendsPrefix (writer_contents W.contents writer.old)
-        (writer_contents W.contents writer.new) (report_text report.now.lines.items) }
-    ensures finished { Finishes cause report.now.lines.items (writer_contents W.contents writer.old)
+    ensures sent { Sends cause report.now.lines.items (writer_contents W.contents writer.old)
         (writer_contents W.contents writer.new) result }
+    ensures words { IsOfImport result }
     ensures flushed { status_of result ≡ 0 → writer_buffer writer.new ≡ [] }
 {
     let flushed = send_report(report, writer);
@@ -87,18 +82,17 @@ fn finish<W: Write + Drop>(
 /// that stand, and tells how that ends. The output is flushed. `line` tells how far the import is,
 /// and is ended before the report is written.
 ///
-/// - `done`: with status 0 each row was imported and its declaration stands; with status 1 too, but
-///   for a file without its header, and some declaration doesn't stand. The whole report is
-///   written.
-/// - `stopped`: after a fault of the records, and where memory was refused, the first rows stand;
-///   after one of the output all rows do. What was written is a beginning of their report. After
-///   one of the input, and where the header is missing, nothing has changed and nothing is written.
-/// - `promised`: what a registry promises after any list of requests holds of the requests of the
-///   rows that were applied, after a fault of the first ones.
+/// - `runs`: what the reader gave, and the first of its rows, all of them with status 0 and 1 and
+///   after a fault of the output, but none where the header is missing. Status 0 tells that each
+///   row's declaration stands, and status 1 that one doesn't, but for a file without its header.
+///   Their report is what is written after what the writer had, or a beginning of it with status 3.
+///   The registry has what they come to, what it promises after any list of requests holds of their
+///   requests, and a crash finds them imported, and one row more at most. An input that is turned
+///   down changes nothing.
+/// - `words`: it ends as an import does.
+/// - `flushed`: with status 0 nothing is left in the writer's buffer.
 /// - `corruptions_stay`: what keeps the records returned what was written before, where it did so to
 ///   the end.
-/// - `found`: however it ends, the rows whose report is written, whole or in part, are first rows,
-///   and a crash finds them imported, and at most one row more.
 pub fn declare<S: Shelf, R: Read, W: Write + Drop, T: Write>(
     alloc: Global,
     registry: &mut Registry<S>,
@@ -106,31 +100,16 @@ pub fn declare<S: Shelf, R: Read, W: Write + Drop, T: Write>(
     writer: &mut BufWriter<W>,
     line: &mut ProgressLine<T>,
 ) -> Ending
-    ensures done { (S.seen registry.new.shelf).corruptions ≡ 0
-        → IfSome (R.remaining reader.old)
-        (λ input. IsDeclared input (S.seen registry.old.shelf).state
-        (S.seen registry.new.shelf).state (writer_contents W.contents writer.old)
-        (writer_contents W.contents writer.new) result) }
-    ensures stopped { (S.seen registry.new.shelf).corruptions ≡ 0
-        → IfSome (R.remaining reader.old)
-        (λ input. IsStopped result input (seen_of (S.seen registry.old.shelf))
-        (seen_of (S.seen registry.new.shelf)) (writer_contents W.contents writer.old)
-        (writer_contents W.contents writer.new)) }
-    ensures promised { IsSound (S.seen registry.old.shelf).state
-        → (S.seen registry.new.shelf).corruptions ≡ 0 → (S.seen registry.new.shelf).defects ≡ 0
-        → IfSome (R.remaining reader.old)
-        (λ input. KeepsPromise result input (S.seen registry.old.shelf).state
-        (S.seen registry.new.shelf).state) }
+    ensures runs { (S.seen registry.new.shelf).corruptions ≡ 0
+        → DeclaresRows result (S.seen registry.old.shelf).state
+        (writer_contents W.contents writer.old) (writer_contents W.contents writer.new)
+        (HasState result (seen_of (S.seen registry.new.shelf)))
+        (MayFind (seen_of (S.seen registry.old.shelf)) (S.seen registry.new.shelf).leaves)
+        (R.remaining reader.old) (R.remaining reader.new) }
+    ensures words { IsOfImport result }
+    ensures flushed { status_of result ≡ 0 → writer_buffer writer.new ≡ [] }
     ensures corruptions_stay { (S.seen registry.new.shelf).corruptions ≡ 0
         → (S.seen registry.old.shelf).corruptions ≡ 0 }
-    ensures flushed { status_of result ≡ 0 → writer_buffer writer.new ≡ [] }
-    ensures found { (S.seen registry.new.shelf).corruptions ≡ 0
-        → (S.seen registry.old.shelf).defects ≡ 0
-        → IfSome (R.remaining reader.old) (λ input.
-        FindsDeclared input (S.seen registry.old.shelf).state
-        (seen_of (S.seen registry.new.shelf))
-        (writer_contents W.contents writer.old) (writer_contents W.contents writer.new)
-        (S.seen registry.new.shelf).leaves) }
 {
     let imported = import_declarations_watched(alloc, registry, &issuer(), reader, line);
     line.end();

@@ -1,11 +1,12 @@
 -- What a crash finds of an import.
-use Rattle.std.proofs.Common.{◌≡◌, ◌⊎◌, ◌∷◌, ◌++◌, [], ℕ, List, Option, Some, inl, inr, refl, subst, sym}
+use Rattle.std.proofs.Common.{◌≡◌, ◌⊎◌, ◌∷◌, ◌++◌, [], ℕ, List, Option, Some, Result, inl, inr, refl, subst, sym}
 use Rattle.goo_spec.specs.State.{State}
 use Rattle.goo_core_shelf.specs.Desk.{Seen}
-use Rattle.goo_files_import.specs.Durable.{AreUpTo, FindsReported}
+use Rattle.goo_files_import.specs.Runs.{AreUpTo, ImportsFirst}
+use Rattle.goo_files_import.specs.declared.cause.ImportFault.{ImportFault}
+use Rattle.goo_files_import.specs.declared.report.Report.{Report}
 use Rattle.goo_files_import.specs.Import.{importing}
 use Rattle.goo_files_import.specs.Table.{AreFirstRows}
-use Rattle.goo_files_import.specs.declared.row_result.RowResult.{RowResult}
 use Rattle.goo_desk_backend.specs.Durable.{FindsAmong}
 use Rattle.goo_desk_backend.specs.Showing.{begun_by}
 
@@ -22,5 +23,5 @@ one_of caller input old rows upto are o (inl is) = ((importing old caller rows).
 one_of caller input old rows upto are o (inr is) = ((importing old caller upto).state, (upto, inl (upto_first input rows upto are.are_first are.next), refl), is)
 
 -- some first rows were applied
-pub found_begun : (caller input : List ℕ) (old : State) (new : Seen) (lines : List RowResult) (leaves : Option State → Type 0) → FindsReported caller input old new lines leaves → FindsAmong leaves (begun_by old caller input)
-found_begun caller input old new lines leaves found o may = one_of caller input old found.rows found.upto found.are o (found.found o may)
+pub found_begun : (caller input : List ℕ) (old new : Seen) (leaves : Option State → Type 0) (result : Result Report ImportFault) → ImportsFirst caller old new leaves result input → old.defects ≡ 0 → FindsAmong leaves (begun_by old.state caller input)
+found_begun caller input old new leaves result it sure o may = one_of caller input old.state it.rows it.upto it.are o (it.found sure o may)

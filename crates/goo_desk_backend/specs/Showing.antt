@@ -10,7 +10,7 @@ use Rattle.goo_registry.specs.Reads.{place_shown, notice_shown, account_denial}
 use Rattle.goo_files.specs.Texts.{IsStatement, IsDocument, IsAuditText, audit_denial, cancellation_denial}
 use Rattle.goo_files_import.specs.Import.{importing}
 use Rattle.goo_files_import.specs.Report.{report_text}
-use Rattle.goo_files_import.specs.Stands.{IsImported}
+use Rattle.goo_files_import.specs.Runs.{IsImported}
 use Rattle.goo_files_import.specs.Table.{LacksHeader, AreRows, AreFirstRows}
 use Rattle.goo_files_import.specs.declared.row_result.RowResult.{RowResult}
 use Rattle.goo_desk_routes.specs.declared.task.Subject.{Subject}

@@ -1,11 +1,10 @@
 -- Answering one more line.
-use Rattle.std.proofs.Common.{◌≡◌, ◌==◌, ◌≤◌, ◌+◌, ℕ, List, [], ◌∷◌, ◌++◌, refl, sym, arith, Option, ◌∙◌, length, length-append, ap, ◌<◌, true, false, Result, Ok, Err, IfErr, IfSome, IsErrAnd, OnErr, Some, None, subst}
+use Rattle.std.proofs.Common.{◌≡◌, ◌==◌, ◌≤◌, ◌+◌, ℕ, List, [], ◌∷◌, ◌++◌, refl, sym, arith, Option, ◌∙◌, length, length-append, ap, ◌<◌, true, false, Result, Ok, Err, IfErr, IsErrAnd, OnErr, Some, None, subst, inr}
 use Rattle.std.proofs.lemmas.List.{append-nil}
 use Rattle.std.proofs.lemmas.List.Splits.{length-slice_split}
 use Rattle.std.proofs.lemmas.List.Sums.{count_by-le-length}
 use Rattle.std.specs.Io.KnownBytes.{Appends, Keeps}
-use Rattle.goo_files_streams.proofs.AppendsFacts.{appends-kept, appends-more, appends-none}
-use Rattle.goo_files_streams.specs.Streams.{IsWholeOf}
+use Rattle.goo_files_streams.proofs.AppendsFacts.{appends-more, appends-none}
 use Rattle.goo_files_streams.specs.declared.InputFault.{InputFault}
 use Rattle.goo_files_streams.specs.declared.InputFault.TheVariants as reading
 use Rattle.goo_types.specs.declared.fault.Fault.{Fault}
@@ -14,9 +13,10 @@ use Rattle.goo_core_shelf.specs.Shelf.{IsTold}
 use Rattle.goo_spec.specs.State.{State}
 use Rattle.goo_desk_lines.specs.Faults.{of_reading, of_desk}
 use Rattle.goo_desk_lines.specs.Lines.{lines_of}
-use Rattle.goo_files_streams.specs.Streams.{AppendsPrefix}
+use Rattle.goo_files_streams.specs.Streams.{IsBroken}
 use Rattle.goo_desk_lines.specs.Answers.{answer_line, answer_text, answer_to, is_good, state_after}
-use Rattle.goo_desk_lines.specs.Stops.{AnswersLine, IsBetweenLines, IsToldIn, IsTurnedDown, StandsInPart, StandsWhole}
+use Rattle.goo_desk_lines.specs.Runs.{RunsLines}
+use Rattle.goo_desk_lines.specs.Stops.{AnswersLine, IsToldIn, IsTurnedDown}
 use Rattle.goo_core_shelf.specs.Desk.{Seen}
 use Rattle.goo_desk_lines.specs.declared.answer.LineAnswer.{LineAnswer}
 use Rattle.goo_desk_lines.specs.Fold.{Answered, answering, counted, nothing_answered, with_answer, with_line, with_lines}
@@ -84,12 +84,6 @@ answers-bad s new t line a had has some answer state good text =
     let whole = on-answer s new t line a some answer state in
     record { state = rw whole refl; text = rw whole text; good = rw (whole, good) refl; bad = rw (whole, good) refl }
 
--- a beginning of the line's answer was written
-pub writes-part : (s new : State) (t : Tally) (line : List ℕ) (a : LineAnswer) (had has : Option (List ℕ)) → 0 < length line → a ≡ answer_to s line → new ≡ state_after s line
-    → AppendsPrefix had has (answer_text a ++ 10 ∷ []) → AppendsPrefix had has (with_line (counted s t) line).text
-unfolding answer_line
-writes-part s new t line a had has some answer state text = rw (on-answer s new t line a some answer state) text
-
 pub on-any-err : {T E : Type 0} (r : Result T E) (P : E → Type 0) → ((e : E) → P e) → IfErr r P
 on-any-err (Ok x) P p = tt
 on-any-err (Err e) P p = p e
@@ -119,53 +113,6 @@ stands-next first s new had mid has done line t after stood next =
       bad = rw (last, bad-parts a line) (next.bad ∙ ap (λ (b : Answered). b.bad) single);
     }
 
-pub whole-at : (first s : State) (new : Seen) (had mid has : Option (List ℕ)) (input : List ℕ) (done left : List (List ℕ)) (t : Tally) → lines_of input ≡ done ++ left → Stands first s had mid done t
-    → (new.defects ≡ 0 → new.state ≡ s) → Keeps mid has → StandsWhole input first new had has
-whole-at first s new had mid has input done left t order stood same kept = record {
-  done = done;
-  left = left;
-  order = order;
-  state = λ sure. same sure ∙ stood.state;
-  text = appends-kept had mid has (answering first done).text stood.text kept;
-}
-
--- the text of a line's answer, with whatever counts so far
-text-alone : (s u : State) (t : Tally) (line : List ℕ) → s ≡ u → (with_line (counted s t) line).text ≡ (with_line (nothing_answered u) line).text
-text-alone s u t [] same = refl
-text-alone s u t (b ∷ line) same = rw same refl
-
-pub part-at : (first s new : State) (had mid has : Option (List ℕ)) (input : List ℕ) (done left : List (List ℕ)) (line : List ℕ) (t : Tally) → lines_of input ≡ done ++ line ∷ left → Stands first s had mid done t
-    → new ≡ (with_line (counted s t) line).state → AppendsPrefix mid has (with_line (counted s t) line).text → StandsInPart input first new had has
-part-at first s new had mid has input done left line t order stood state text =
-    let a = answering first done in
-    let last : answering first (done ++ line ∷ []) ≡ with_line a line = with-last (nothing_answered first) done line in
-    let single = alone s t a line stood.state stood.good stood.bad in
-    record {
-      done = done;
-      last = line;
-      left = left;
-      order = order;
-      state = rw (last, state-parts a line) (state ∙ ap (λ (b : Answered). b.state) single);
-      mid = mid;
-      whole = stood.text;
-      begun = rw (text-alone s a.state t line stood.state) at text;
-    }
-
--- the error that is handed on
-pub on-same-err : {T E : Type 0} (r : Result T E) (e : E) (P : E → Type 0) → IsErrAnd r (λ f. f ≡ e) → P e → IfErr r P
-on-same-err (Ok x) e P same p = tt
-on-same-err (Err f) e P same p = rw same p
-
--- no line was answered yet
-none-whole : (s : Seen) (input : List ℕ) (w : Option (List ℕ)) → StandsWhole input s.state s w w
-unfolding with_lines
-none-whole s input w = record { done = []; left = lines_of input; order = refl; state = λ sure. refl; text = appends-none w }
-
-pub whole-unread : {T : Type 0} (r : Result T LinesFault) (known : Option (List ℕ)) (s : Seen) (w : Option (List ℕ)) → IfSome known (λ input. IfErr r (λ fault. IsBetweenLines fault → StandsWhole input s.state s w w))
-whole-unread r None s w = tt
-whole-unread (Ok x) (Some input) s w = tt
-whole-unread (Err e) (Some input) s w = λ between. none-whole s input w
-
 -- a fault of the desk is told as the same fault of the lines
 pub told_by_desk : (T : Type 0) {U : Type 0} (f : Fault) (r : Result U LinesFault) (n : ℕ) → IsErrAnd r (λ e. e ≡ of_desk f) → IsTold {T = T} (Err f) n → IsToldIn r n
 told_by_desk T f (Ok x) n is told = absurd is
@@ -176,6 +123,7 @@ told_by_desk T {U} desk.Memory (Err e) n is told = subst (λ (g : LinesFault). I
 pub told_by_reader : {U : Type 0} (f : InputFault) (r : Result U LinesFault) (n : ℕ) → IsErrAnd r (λ e. e ≡ of_reading f) → n ≡ 0 → IsToldIn r n
 told_by_reader f (Ok x) n is none = absurd is
 told_by_reader {U} reading.Read (Err e) n is none = subst (λ (g : LinesFault). IsToldIn {T = U} (Err g) n) (sym is) none
+told_by_reader {U} reading.TooLong (Err e) n is none = subst (λ (g : LinesFault). IsToldIn {T = U} (Err g) n) (sym is) none
 told_by_reader {U} reading.Memory (Err e) n is none = subst (λ (g : LinesFault). IsToldIn {T = U} (Err g) n) (sym is) none
 
 pub keeps-same : (w : Option (List ℕ)) → Keeps w w
@@ -186,14 +134,9 @@ keeps-same (Some a) = refl
 turned_down : (f : InputFault) (r : Result Tally LinesFault) (s : Seen) (w : Option (List ℕ)) → IsErrAnd r (λ e. e ≡ of_reading f) → IsTurnedDown r s s w w
 turned_down f (Ok x) s w is = absurd is
 turned_down reading.Read (Err e) s w is = record { fault = rw is tt; seen = refl; silent = keeps-same w }
+turned_down reading.TooLong (Err e) s w is = record { fault = rw is tt; seen = refl; silent = keeps-same w }
 turned_down reading.Memory (Err e) s w is = record { fault = rw is tt; seen = refl; silent = keeps-same w }
 
-pub down-unread : (f : InputFault) (r : Result Tally LinesFault) (known : Option (List ℕ)) (limit : ℕ) (s : Seen) (w : Option (List ℕ)) → IsErrAnd r (λ e. e ≡ of_reading f)
-    → IfSome known (λ input. limit < length input → IsTurnedDown r s s w w)
-down-unread f r None limit s w is = tt
-down-unread f r (Some input) limit s w is = λ over. turned_down f r s w is
-
--- what was read is no longer than the limit
-pub within-limit : (P : Type 0) (known : Option (List ℕ)) (items : List ℕ) (limit : ℕ) → IsWholeOf known items → length items ≤ limit → IfSome known (λ input. limit < length input → P)
-within-limit P None items limit whole within = tt
-within-limit P (Some input) items limit whole within = λ over. absurd (omega (arith, within, over, ap length whole))
+pub turns_down : (f : InputFault) (r : Result Tally LinesFault) (s : Seen) (w : Option (List ℕ)) (leaves : Option State → Type 0) (before after : Option (List ℕ)) (limit : ℕ) → IsErrAnd r (λ e. e ≡ of_reading f) → IsBroken before after limit f
+    → RunsLines s s w w leaves r before after limit
+turns_down f r s w leaves before after limit is broken = inr (record { begun = broken.begun; given = broken.given; down = turned_down f r s w is })

@@ -13,6 +13,7 @@ use Rattle.goo_desk_lines.specs.declared.lines_fault.LinesFault.TheVariants.{Rea
 
 abbrev pub of_reading : InputFault → LinesFault
 of_reading reading.Read = Read
+of_reading reading.TooLong = Read
 of_reading reading.Memory = Memory
 
 abbrev pub of_desk : Fault → LinesFault

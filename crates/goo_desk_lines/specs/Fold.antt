@@ -45,3 +45,15 @@ lines s input = answering s (lines_of input)
 -- the state and the counts so far, with no text
 abbrev pub counted : State → Tally → Answered
 counted s t = record { text = []; state = s; good = t.good; bad = t.bad }
+
+-- the state that a line leaves, and the text of its answer: the empty one where it is passed over
+abbrev pub state_with : State → List ℕ → State
+state_with s line = (with_line (nothing_answered s) line).state
+
+abbrev pub text_with : State → List ℕ → List ℕ
+text_with s line = (with_line (nothing_answered s) line).text
+
+-- some lines, and the next one as well
+abbrev pub with_next : List (List ℕ) → List (List ℕ) → List (List ℕ)
+with_next done [] = done
+with_next done (line ∷ left) = done ++ line ∷ []

@@ -5,6 +5,5 @@ pub mod Answers
 pub mod Fold
 pub mod Stops
 pub mod Requests
+pub mod Runs
 pub mod Laws
-pub mod Promised
-pub mod Durable

@@ -1,11 +1,11 @@
 -- Where an answering of lines stops, and what stands then.
-use Rattle.std.specs.Prelude.{◌≡◌, ℕ, [], ◌∷◌, ◌++◌, List, Option, Result, Ok, Err, IsErrAnd}
+use Rattle.std.specs.Prelude.{◌≡◌, ℕ, List, Option, Result, Ok, Err, IsErrAnd, OnOk}
 use Rattle.std.specs.Io.KnownBytes.{Appends, Keeps}
 use Rattle.goo_files_streams.specs.Streams.{AppendsPrefix}
 use Rattle.goo_spec.specs.State.{State}
-use Rattle.goo_core_shelf.specs.Desk.{Seen}
-use Rattle.goo_desk_lines.specs.Lines.{lines_of}
-use Rattle.goo_desk_lines.specs.Fold.{answering, counted, nothing_answered, with_line}
+use Rattle.goo_core_shelf.specs.Crash.{FindsOnly, FindsEither}
+use Rattle.goo_core_shelf.specs.Desk.{Seen, StaysSure}
+use Rattle.goo_desk_lines.specs.Fold.{counted, state_with, text_with, with_line}
 use Rattle.goo_desk_lines.specs.declared.lines_fault.LinesFault.{LinesFault}
 use Rattle.goo_desk_lines.specs.declared.lines_fault.LinesFault.TheVariants.{Read, Write, Store, Memory}
 use Rattle.goo_desk_lines.specs.declared.tally.Tally.{Tally}
@@ -17,19 +17,31 @@ pub record AnswersLine (line : List ℕ) (old new : State) (before after : Tally
   pub good : after.good ≡ (with_line (counted old before) line).good
   pub bad : after.bad ≡ (with_line (counted old before) line).bad
 
--- the fault came before a line was carried out, so nothing of that line stands
-abbrev pub IsBetweenLines : LinesFault → Type 0
-IsBetweenLines Store = Unit {0}
-IsBetweenLines Memory = Unit {0}
-IsBetweenLines Read = ⊥
-IsBetweenLines Write = ⊥
+-- the line was not carried out, and nothing written
+pub record PassesOver (old : State) (new : Seen) (had has : Option (List ℕ)) : Type 0 where
+  pub state : new.defects ≡ 0 → new.state ≡ old
+  pub silent : Keeps had has
 
--- the fault came after the whole input was read
-abbrev pub IsAfterReading : LinesFault → Type 0
-IsAfterReading Store = Unit {0}
-IsAfterReading Write = Unit {0}
-IsAfterReading Read = ⊥
-IsAfterReading Memory = ⊥
+-- the line was carried out, and a beginning of its answer written
+pub record BeginsLine (line : List ℕ) (old new : State) (had has : Option (List ℕ)) : Type 0 where
+  pub state : new ≡ state_with old line
+  pub begun : AppendsPrefix had has (text_with old line)
+
+-- what became of one line
+abbrev pub AnswersNext : List ℕ → State → Seen → (before after : Tally) → (had has : Option (List ℕ)) → Result (Unit {0}) LinesFault → Type 0
+AnswersNext line old new before after had has (Ok done) = AnswersLine line old new.state before after had has
+AnswersNext line old new before after had has (Err Store) = PassesOver old new had has
+AnswersNext line old new before after had has (Err Memory) = PassesOver old new had has
+AnswersNext line old new before after had has (Err Write) = BeginsLine line old new.state had has
+AnswersNext line old new before after had has (Err Read) = ⊥
+
+-- what a crash finds of it: no answer is written before its request is found again
+abbrev pub FindsNext : List ℕ → State → (Option State → Type 0) → Result (Unit {0}) LinesFault → Type 0
+FindsNext line old leaves (Ok done) = FindsOnly leaves (state_with old line)
+FindsNext line old leaves (Err Write) = FindsOnly leaves (state_with old line)
+FindsNext line old leaves (Err Store) = FindsEither leaves old (state_with old line)
+FindsNext line old leaves (Err Memory) = FindsEither leaves old (state_with old line)
+FindsNext line old leaves (Err Read) = ⊥
 
 -- the fault came before the first line
 abbrev pub IsBeforeLines : LinesFault → Type 0
@@ -46,28 +58,15 @@ IsToldIn (Err Read) refusals = refusals ≡ 0
 IsToldIn (Err Write) refusals = refusals ≡ 0
 IsToldIn (Err Memory) refusals = refusals ≡ 0
 
+-- what becomes of a desk: no corruption is forgotten, a refused call is told, and only a failed one brings a defect
+pub record LeavesDesk {T : Type 0} (old new : Seen) (result : Result T LinesFault) : Type 0 where
+  pub corruptions_stay : new.corruptions ≡ 0 → old.corruptions ≡ 0
+  pub told : old.refusals ≡ 0 → IsToldIn result new.refusals
+  pub works : new.corruptions ≡ 0 → old.defects ≡ 0 → OnOk result (new.defects ≡ 0)
+  pub stays : new.corruptions ≡ 0 → old.defects ≡ 0 → StaysSure old new
+
 -- the input was turned down as a whole: nothing was applied, and nothing written
 pub record IsTurnedDown (result : Result Tally LinesFault) (old new : Seen) (had has : Option (List ℕ)) : Type 0 where
   pub fault : IsErrAnd result IsBeforeLines
   pub seen : new ≡ old
   pub silent : Keeps had has
-
--- the first of the input's lines stand, and what was written is the whole of their answers
-pub record StandsWhole (input : List ℕ) (old : State) (new : Seen) (had has : Option (List ℕ)) : Type 0 where
-  pub done : List (List ℕ)
-  pub left : List (List ℕ)
-  pub order : lines_of input ≡ done ++ left
-  pub state : new.defects ≡ 0 → new.state ≡ (answering old done).state
-  pub text : Appends had has (answering old done).text
-
--- the first of the input's lines stand, `last` among them: the answers of those before it are written whole, and a beginning of its own
-pub record StandsInPart (input : List ℕ) (old : State) (new : State) (had has : Option (List ℕ)) : Type 0 where
-  pub done : List (List ℕ)
-  pub last : List ℕ
-  pub left : List (List ℕ)
-  pub order : lines_of input ≡ done ++ last ∷ left
-  pub state : new ≡ (answering old (done ++ last ∷ [])).state
-  -- what the writer held before the answer of `last`
-  pub mid : Option (List ℕ)
-  pub whole : Appends had mid (answering old done).text
-  pub begun : AppendsPrefix mid has (with_line (nothing_answered (answering old done).state) last).text

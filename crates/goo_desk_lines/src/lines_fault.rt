@@ -39,7 +39,7 @@ impl From<InputFault> for LinesFault {
 
     fn from(fault: InputFault) -> Self {
         match fault {
-            InputFault::Read => LinesFault::Read,
+            InputFault::Read | InputFault::TooLong => LinesFault::Read,
             InputFault::Memory => LinesFault::Memory,
         }
     }

@@ -1,21 +1,16 @@
 //! The lines of an input, answered in turn.
-ghost use Rattle.std.specs.Prelude.{◌≡◌, ◌≢◌, ◌≤◌, ◌<◌, ◌+◌, ◌^◌, ◌++◌, ◌∷◌, [], length, IfOk};
-ghost use Rattle.std.specs.Prelude.{IfErr, IfSome, OnOk, OnErr, Err};
-ghost use Rattle.std.specs.Io.KnownBytes.{Appends, IsAtEnd, Keeps};
+ghost use Rattle.std.specs.Prelude.{◌≡◌, ◌≢◌, ◌≤◌, ◌<◌, ◌+◌, ◌^◌, ◌++◌, ◌∷◌, [], length, IfOk, IfErr};
+ghost use Rattle.std.specs.Prelude.{OnOk, OnErr, Err};
+ghost use Rattle.std.specs.Io.KnownBytes.{Appends};
 ghost use Rattle.goo_files_streams.specs.Streams.{AppendsPrefix};
-ghost use Rattle.goo_desk_lines.specs.Answers.{answer_to, state_after};
-ghost use Rattle.goo_desk_lines.specs.Durable.{FindsAnswered, FindsLine};
-ghost use Rattle.goo_desk_lines.specs.Lines.{request_in};
-ghost use Rattle.goo_desk_lines.specs.Fold.{counted, with_line, lines};
 ghost use Rattle.goo_core_shelf.specs.Shelf.{IsTold};
-ghost use Rattle.goo_core_shelf.specs.Crash.{FindsOnly, FindsEither};
+ghost use Rattle.goo_core_shelf.specs.Crash.{FindsEither};
 ghost use Rattle.goo_core_shelf.specs.Desk.{StaysSure};
-ghost use Rattle.goo_spec.specs.Sound.{IsSound};
-ghost use Rattle.goo_desk_lines.specs.Promised.{KeepsPromise};
-ghost use Rattle.goo_desk_lines.specs.Stops.{AnswersLine, IsAfterReading, IsBetweenLines, IsToldIn};
-ghost use Rattle.goo_desk_lines.specs.Stops.{IsTurnedDown, StandsWhole, StandsInPart};
+ghost use Rattle.goo_desk_lines.specs.Answers.{answer_to, state_after};
+ghost use Rattle.goo_desk_lines.specs.Lines.{lines_of, request_in};
+ghost use Rattle.goo_desk_lines.specs.Runs.{AnswersFirst, RunsLines};
+ghost use Rattle.goo_desk_lines.specs.Stops.{AnswersNext, FindsNext, LeavesDesk};
 ghost use Rattle.goo_desk_lines.specs.declared.lines_fault.LinesFault.TheVariants.{Read as Reading};
-ghost use Rattle.goo_desk_lines.specs.declared.lines_fault.LinesFault.TheVariants.{Write as Writing};
 
 use crate::answer::LineAnswer;
 use crate::line::read_line;
@@ -82,37 +77,16 @@ fn answer_next<D: Desk, W: Write>(
 ) -> Result<(), LinesFault>
     requires { tally.old.good + tally.old.bad + 1 < 2 ^ 64 }
     ensures answered { (D.seen desk.new).corruptions ≡ 0
-        → OnOk result
-        (AnswersLine line.now (D.seen desk.old).state (D.seen desk.new).state tally.old tally.new
-        (W.contents writer.old) (W.contents writer.new)) }
+        → AnswersNext line.now (D.seen desk.old).state (D.seen desk.new) tally.old tally.new
+        (W.contents writer.old) (W.contents writer.new) result }
+    ensures found { (D.seen desk.new).corruptions ≡ 0 → (D.seen desk.old).defects ≡ 0
+        → FindsNext line.now (D.seen desk.old).state (D.leaves desk.new) result }
+    ensures desk { LeavesDesk (D.seen desk.old) (D.seen desk.new) result }
     ensures count { OnOk result
         (tally.new.good + tally.new.bad ≤ tally.old.good + tally.old.bad + 1) }
     ensures kinds { IfErr result (λ fault. fault ≢ Reading) }
-    ensures unchanged { IfErr result
-        (λ fault. IsBetweenLines fault → (D.seen desk.new).defects ≡ 0
-        → (D.seen desk.new).state ≡ (D.seen desk.old).state) }
-    ensures unwritten { IfErr result
-        (λ fault. IsBetweenLines fault → Keeps (W.contents writer.old) (W.contents writer.new)) }
-    ensures stands { IfErr result
-        (λ fault. fault ≡ Writing → (D.seen desk.new).corruptions ≡ 0
-        → (D.seen desk.new).state
-        ≡ (with_line (counted (D.seen desk.old).state tally.old) line.now).state) }
-    ensures prefix { IfErr result
-        (λ fault. fault ≡ Writing → (D.seen desk.new).corruptions ≡ 0
-        → AppendsPrefix (W.contents writer.old) (W.contents writer.new)
-        (with_line (counted (D.seen desk.old).state tally.old) line.now).text) }
-    ensures corruptions_stay { (D.seen desk.new).corruptions ≡ 0
-        → (D.seen desk.old).corruptions ≡ 0 }
     ensures unasked { (reason : _) → request_in line.now ≡ Err reason
         → IfErr result (λ fault. fault ≢ LinesFault.Store) }
-    ensures told { (D.seen desk.old).refusals ≡ 0 → IsToldIn result (D.seen desk.new).refusals }
-    ensures works { (D.seen desk.new).corruptions ≡ 0 → (D.seen desk.old).defects ≡ 0
-        → OnOk result ((D.seen desk.new).defects ≡ 0) }
-    ensures found { (D.seen desk.new).corruptions ≡ 0 → (D.seen desk.old).defects ≡ 0
-        → FindsLine (D.seen desk.old).state line.now (D.seen desk.new)
-        (W.contents writer.old) (W.contents writer.new) (D.leaves desk.new) }
-    ensures stays { (D.seen desk.new).corruptions ≡ 0 → (D.seen desk.old).defects ≡ 0
-        → StaysSure (D.seen desk.old) (D.seen desk.new) }
 {
     if line.is_empty() {
         return Ok(());
@@ -135,33 +109,11 @@ fn answer_lines<D: Desk, W: Write>(
     writer: &mut W,
 ) -> Result<Tally, LinesFault>
     requires { length input.now + 3 < 2 ^ 64 }
-    ensures state { (D.seen desk.new).corruptions ≡ 0
-        → OnOk result ((D.seen desk.new).state ≡ (lines (D.seen desk.old).state input.now).state) }
-    ensures text { (D.seen desk.new).corruptions ≡ 0
-        → OnOk result
-        (Appends (W.contents writer.old) (W.contents writer.new)
-        (lines (D.seen desk.old).state input.now).text) }
-    ensures good { (D.seen desk.new).corruptions ≡ 0
-        → IfOk result (λ tally. tally.good ≡ (lines (D.seen desk.old).state input.now).good) }
-    ensures bad { (D.seen desk.new).corruptions ≡ 0
-        → IfOk result (λ tally. tally.bad ≡ (lines (D.seen desk.old).state input.now).bad) }
+    ensures answered { (D.seen desk.new).corruptions ≡ 0
+        → AnswersFirst (D.seen desk.old) (D.seen desk.new) (W.contents writer.old)
+        (W.contents writer.new) (D.leaves desk.new) result (lines_of input.now) }
+    ensures desk { LeavesDesk (D.seen desk.old) (D.seen desk.new) result }
     ensures kinds { IfErr result (λ fault. fault ≢ Reading) }
-    ensures whole { IfErr result
-        (λ fault. IsBetweenLines fault → (D.seen desk.new).corruptions ≡ 0
-        → StandsWhole input.now (D.seen desk.old).state (D.seen desk.new) (W.contents writer.old)
-        (W.contents writer.new)) }
-    ensures part { IfErr result
-        (λ fault. fault ≡ Writing → (D.seen desk.new).corruptions ≡ 0
-        → StandsInPart input.now (D.seen desk.old).state (D.seen desk.new).state
-        (W.contents writer.old) (W.contents writer.new)) }
-    ensures corruptions_stay { (D.seen desk.new).corruptions ≡ 0
-        → (D.seen desk.old).corruptions ≡ 0 }
-    ensures told { (D.seen desk.old).refusals ≡ 0 → IsToldIn result (D.seen desk.new).refusals }
-    ensures found { (D.seen desk.new).corruptions ≡ 0 → (D.seen desk.old).defects ≡ 0
-        → FindsAnswered input.now (D.seen desk.old).state (D.seen desk.new)
-        (W.contents writer.old) (W.contents writer.new) (D.leaves desk.new) }
-    ensures stays { (D.seen desk.new).corruptions ≡ 0 → (D.seen desk.old).defects ≡ 0
-        → StaysSure (D.seen desk.old) (D.seen desk.new) }
 {
     let mut tally = Tally { good: 0, bad: 0 };
     for line in Lines(Some(input)) {
@@ -182,13 +134,15 @@ fn answer_lines<D: Desk, W: Write>(
 /// a call. An input of more than [`MOST_INPUT`] bytes is a `Read`, or a `Memory` where there is no
 /// room for what is read of it, and none of its lines is applied. Nothing is flushed.
 ///
-/// `promised`: what a registry promises after any list of requests holds of the requests of the
-/// lines that were answered, all of them or the first ones
-/// ([`lines_are_a_run`](crate::lines_are_a_run) says that lines are a run of their requests).
-/// `found`: however it ends, all that is written are answers to first lines that a crash finds
-/// carried out, and at most one line more. `stays`: however it ends, there is no defect unless a
-/// call below failed. So after a `Memory` with no failed call the state is known, and a crash finds
-/// it.
+/// `runs`, whether or not the reader tells its bytes: it gave them to its end, and the first of
+/// their lines were answered, and all of them after an `Ok`. The outcomes of just these lines are
+/// written, their state stands, what a registry promises after any list of requests holds of their
+/// requests ([`lines_are_a_run`](crate::lines_are_a_run) says that lines are a run of their
+/// requests), and a crash finds them carried out, and at most one line more. Or it gave a beginning,
+/// and nothing was applied or written.
+///
+/// `desk`: however it ends, there is no defect unless a call below failed. So after a `Memory` with
+/// no failed call the state is known, and a crash finds it.
 ///
 /// # Example
 ///
@@ -204,55 +158,10 @@ pub fn run_lines<D: Desk, R: Read, W: Write>(
     reader: &mut R,
     writer: &mut W,
 ) -> Result<Tally, LinesFault>
-    ensures state { (D.seen desk.new).corruptions ≡ 0
-        → IfSome (R.remaining reader.old)
-        (λ input. OnOk result
-        ((D.seen desk.new).state ≡ (lines (D.seen desk.old).state input).state)) }
-    ensures text { (D.seen desk.new).corruptions ≡ 0
-        → IfSome (R.remaining reader.old)
-        (λ input. OnOk result
-        (Appends (W.contents writer.old) (W.contents writer.new)
-        (lines (D.seen desk.old).state input).text)) }
-    ensures good { (D.seen desk.new).corruptions ≡ 0
-        → IfSome (R.remaining reader.old)
-        (λ input. IfOk result (λ tally. tally.good ≡ (lines (D.seen desk.old).state input).good)) }
-    ensures bad { (D.seen desk.new).corruptions ≡ 0
-        → IfSome (R.remaining reader.old)
-        (λ input. IfOk result (λ tally. tally.bad ≡ (lines (D.seen desk.old).state input).bad)) }
-    ensures unread { IfErr result
-        (λ fault. fault ≡ Reading → (D.seen desk.new).state ≡ (D.seen desk.old).state) }
-    ensures silent { IfErr result
-        (λ fault. fault ≡ Reading → Keeps (W.contents writer.old) (W.contents writer.new)) }
-    ensures whole { (D.seen desk.new).corruptions ≡ 0
-        → IfSome (R.remaining reader.old)
-        (λ input. IfErr result
-        (λ fault. IsBetweenLines fault
-        → StandsWhole input (D.seen desk.old).state (D.seen desk.new) (W.contents writer.old)
-        (W.contents writer.new))) }
-    ensures part { (D.seen desk.new).corruptions ≡ 0
-        → IfSome (R.remaining reader.old)
-        (λ input. IfErr result
-        (λ fault. fault ≡ Writing
-        → StandsInPart input (D.seen desk.old).state (D.seen desk.new).state (W.contents writer.old)
-        (W.contents writer.new))) }
-    ensures corruptions_stay { (D.seen desk.new).corruptions ≡ 0
-        → (D.seen desk.old).corruptions ≡ 0 }
-    ensures told { (D.seen desk.old).refusals ≡ 0 → IsToldIn result (D.seen desk.new).refusals }
-    ensures limit { IfSome (R.remaining reader.old)
-        (λ input. 16_777_216 < length input
-        → IsTurnedDown result (D.seen desk.old) (D.seen desk.new) (W.contents writer.old)
-        (W.contents writer.new)) }
-    ensures end { OnOk result (IsAtEnd (R.remaining reader.new)) }
-    ensures read { IfErr result (λ fault. IsAfterReading fault → IsAtEnd (R.remaining reader.new)) }
-    ensures promised { IsSound (D.seen desk.old).state → (D.seen desk.new).corruptions ≡ 0
-        → IfSome (R.remaining reader.old)
-        (λ input. KeepsPromise input (D.seen desk.old).state (D.seen desk.new) result) }
-    ensures found { (D.seen desk.new).corruptions ≡ 0 → (D.seen desk.old).defects ≡ 0
-        → IfSome (R.remaining reader.old) (λ input.
-        FindsAnswered input (D.seen desk.old).state (D.seen desk.new)
-        (W.contents writer.old) (W.contents writer.new) (D.leaves desk.new)) }
-    ensures stays { (D.seen desk.new).corruptions ≡ 0 → (D.seen desk.old).defects ≡ 0
-        → StaysSure (D.seen desk.old) (D.seen desk.new) }
+    ensures runs { RunsLines (D.seen desk.old) (D.seen desk.new) (W.contents writer.old)
+        (W.contents writer.new) (D.leaves desk.new) result (R.remaining reader.old)
+        (R.remaining reader.new) 16_777_216 }
+    ensures desk { LeavesDesk (D.seen desk.old) (D.seen desk.new) result }
 {
     let input = read_whole(alloc, reader, MOST_INPUT)?;
     answer_lines(alloc, desk, &input, writer)

@@ -7,6 +7,7 @@ use Rattle.goo_desk_server.specs.declared.serve_fault.ServeFault.TheVariants.{Re
 
 abbrev pub of_reading : InputFault → ServeFault
 of_reading reading.Read = Read
+of_reading reading.TooLong = Read
 of_reading reading.Memory = Memory
 
 -- a fault of the reader is told only where a call of it failed

@@ -37,7 +37,7 @@ impl From<InputFault> for ServeFault {
 
     fn from(fault: InputFault) -> Self {
         match fault {
-            InputFault::Read => ServeFault::Read,
+            InputFault::Read | InputFault::TooLong => ServeFault::Read,
             InputFault::Memory => ServeFault::Memory,
         }
     }

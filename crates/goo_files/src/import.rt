@@ -1,14 +1,10 @@
 //! Declarations imported from CSV, and the report of it.
-ghost use Rattle.std.specs.Prelude.{◌≡◌, [], IfOk, IfErr, IfSome, OnOk, OnErr};
-ghost use Rattle.std.specs.Io.KnownBytes.{Appends, IsAtEnd};
+ghost use Rattle.std.specs.Prelude.{◌≡◌, IfErr, OnOk, OnErr};
+ghost use Rattle.std.specs.Io.KnownBytes.{Appends};
 ghost use Rattle.goo_files_streams.specs.Streams.{AppendsPrefix};
 ghost use Rattle.goo_registry.specs.Desks.{seen_of};
-ghost use Rattle.goo_files_import.specs.Durable.{FindsReported, reported};
 ghost use Rattle.goo_files_import.specs.Report.{report_text};
-ghost use Rattle.goo_files_import.specs.Table.{LacksHeader};
-ghost use Rattle.goo_files_import.specs.Stands.{IsImported, StandsInPart, IsBeforeRows};
-ghost use Rattle.goo_files_import.specs.Stands.{IsBetweenRows, IsToldIn};
-ghost use Rattle.goo_files_import.specs.declared.cause.Cause.TheVariants.{Header as NoHeader};
+ghost use Rattle.goo_files_import.specs.Runs.{LeavesDesk, RunsRows};
 ghost use Rattle.goo_files.specs.declared.text_fault.ShowFault.TheVariants.{Write as Unwritten};
 
 use crate::text_fault::ShowFault;
@@ -32,35 +28,11 @@ pub fn import_declarations_watched<S: Shelf, R: Read, P: ImportWatcher>(
     reader: &mut R,
     progress: &mut P,
 ) -> Result<Report, ImportFault>
-    ensures whole { (S.seen registry.new.shelf).corruptions ≡ 0
-        → IfSome (R.remaining reader.old)
-        (λ input. IfOk result
-        (λ report. IsImported caller.now input (S.seen registry.old.shelf).state
-        (S.seen registry.new.shelf).state report.lines.items)) }
-    ensures header { IfSome (R.remaining reader.old)
-        (λ input. IfErr result (λ fault. fault.cause ≡ NoHeader → LacksHeader input)) }
-    ensures before { IfErr result
-        (λ fault. IsBeforeRows fault.cause
-        → seen_of (S.seen registry.new.shelf) ≡ seen_of (S.seen registry.old.shelf)) }
-    ensures before_lines { IfErr result
-        (λ fault. IsBeforeRows fault.cause → fault.report.lines.items ≡ []) }
-    ensures part { (S.seen registry.new.shelf).corruptions ≡ 0
-        → IfSome (R.remaining reader.old)
-        (λ input. IfErr result
-        (λ fault. IsBetweenRows fault.cause
-        → StandsInPart caller.now input (S.seen registry.old.shelf).state
-        (seen_of (S.seen registry.new.shelf)) fault.report.lines.items)) }
-    ensures corruptions_stay { (S.seen registry.new.shelf).corruptions ≡ 0
-        → (S.seen registry.old.shelf).corruptions ≡ 0 }
-    ensures told { (S.seen registry.old.shelf).refusals ≡ 0
-        → IsToldIn result (S.seen registry.new.shelf).refusals }
-    ensures end { OnOk result (IsAtEnd (R.remaining reader.new)) }
-    ensures found { (S.seen registry.new.shelf).corruptions ≡ 0
-        → (S.seen registry.old.shelf).defects ≡ 0
-        → IfSome (R.remaining reader.old) (λ input.
-        FindsReported caller.now input (S.seen registry.old.shelf).state
-        (seen_of (S.seen registry.new.shelf)) (reported result)
-        (S.seen registry.new.shelf).leaves) }
+    ensures runs { RunsRows caller.now (seen_of (S.seen registry.old.shelf))
+        (seen_of (S.seen registry.new.shelf)) (S.seen registry.new.shelf).leaves result
+        (R.remaining reader.old) (R.remaining reader.new) 16_777_216 }
+    ensures desk { LeavesDesk (seen_of (S.seen registry.old.shelf))
+        (seen_of (S.seen registry.new.shelf)) result }
 {
     goo_files_import::import_declarations(alloc, registry, caller, reader, progress)
 }
@@ -79,35 +51,11 @@ pub fn import_declarations<S: Shelf, R: Read>(
     caller: &HolderCode,
     reader: &mut R,
 ) -> Result<Report, ImportFault>
-    ensures whole { (S.seen registry.new.shelf).corruptions ≡ 0
-        → IfSome (R.remaining reader.old)
-        (λ input. IfOk result
-        (λ report. IsImported caller.now input (S.seen registry.old.shelf).state
-        (S.seen registry.new.shelf).state report.lines.items)) }
-    ensures header { IfSome (R.remaining reader.old)
-        (λ input. IfErr result (λ fault. fault.cause ≡ NoHeader → LacksHeader input)) }
-    ensures before { IfErr result
-        (λ fault. IsBeforeRows fault.cause
-        → seen_of (S.seen registry.new.shelf) ≡ seen_of (S.seen registry.old.shelf)) }
-    ensures before_lines { IfErr result
-        (λ fault. IsBeforeRows fault.cause → fault.report.lines.items ≡ []) }
-    ensures part { (S.seen registry.new.shelf).corruptions ≡ 0
-        → IfSome (R.remaining reader.old)
-        (λ input. IfErr result
-        (λ fault. IsBetweenRows fault.cause
-        → StandsInPart caller.now input (S.seen registry.old.shelf).state
-        (seen_of (S.seen registry.new.shelf)) fault.report.lines.items)) }
-    ensures corruptions_stay { (S.seen registry.new.shelf).corruptions ≡ 0
-        → (S.seen registry.old.shelf).corruptions ≡ 0 }
-    ensures told { (S.seen registry.old.shelf).refusals ≡ 0
-        → IsToldIn result (S.seen registry.new.shelf).refusals }
-    ensures end { OnOk result (IsAtEnd (R.remaining reader.new)) }
-    ensures found { (S.seen registry.new.shelf).corruptions ≡ 0
-        → (S.seen registry.old.shelf).defects ≡ 0
-        → IfSome (R.remaining reader.old) (λ input.
-        FindsReported caller.now input (S.seen registry.old.shelf).state
-        (seen_of (S.seen registry.new.shelf)) (reported result)
-        (S.seen registry.new.shelf).leaves) }
+    ensures runs { RunsRows caller.now (seen_of (S.seen registry.old.shelf))
+        (seen_of (S.seen registry.new.shelf)) (S.seen registry.new.shelf).leaves result
+        (R.remaining reader.old) (R.remaining reader.new) 16_777_216 }
+    ensures desk { LeavesDesk (seen_of (S.seen registry.old.shelf))
+        (seen_of (S.seen registry.new.shelf)) result }
 {
     import_declarations_watched(alloc, registry, caller, reader, &mut Unwatched)
 }

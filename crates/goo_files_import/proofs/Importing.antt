@@ -1,10 +1,9 @@
 -- Rows imported in turn.
-use Rattle.std.proofs.Common.{◌≡◌, ◌∙◌, ℕ, List, [], ◌∷◌, ◌++◌, Option, Some, None, IfSome, refl, ap, sym, arith}
+use Rattle.std.proofs.Common.{◌≡◌, ◌∙◌, ℕ, List, [], ◌∷◌, ◌++◌, refl, ap, sym, arith, inl, inr}
 use Rattle.goo_spec.specs.State.{State}
 use Rattle.goo_core_shelf.specs.Desk.{Seen, StaysSure}
 use Rattle.goo_files_import.specs.Import.{Imported, with_row, with_rows, importing, nothing_imported, row_result, state_after}
-use Rattle.goo_files_import.specs.Table.{AreFirstRows, AreRows}
-use Rattle.goo_files_import.specs.Stands.{IsImported, StandsInPart}
+use Rattle.goo_files_import.specs.Runs.{IsReliable}
 use Rattle.goo_files_import.specs.declared.row_result.RowResult.{RowResult}
 
 abbrev pub Fields : Type 0
@@ -83,33 +82,15 @@ importing_on old mid new caller done lines more row so corruptions_stay defects_
   stays = λ none sure. stays_both old mid new (so.stays (corruptions_stay none) sure) (stays none (so.works (corruptions_stay none) sure));
 }
 
--- all rows were
-imported_all : (old new : State) (caller input : List ℕ) (done : List Fields) (lines : List RowResult) → AreImported old new caller done lines → AreRows input done → IsImported caller input old new lines
-imported_all old new caller input done lines are rows = record { rows = done; are_rows = rows; lines_are = are.lines_are; state = are.state }
+-- what is known of them, however that is
+pub imported_so : (old mid : Seen) (caller : List ℕ) (done : List Fields) (lines : List RowResult) → IsImporting old mid caller done lines → IsReliable mid → AreImported old.state mid.state caller done lines
+imported_so old mid caller done lines so (inl honest) = so.honest honest
+imported_so old mid caller done lines so (inr sure) = so.sure sure
 
-pub importing_ends : (old new : Seen) (caller input : List ℕ) (done : List Fields) (lines : List RowResult) → IsImporting old new caller done lines → AreRows input done → new.corruptions ≡ 0 → IsImported caller input old.state new.state lines
-importing_ends old new caller input done lines so rows none = imported_all old.state new.state caller input done lines (so.honest none) rows
+pub works_so : (old mid : Seen) (caller : List ℕ) (done : List Fields) (lines : List RowResult) → IsImporting old mid caller done lines → IsReliable mid → old.defects ≡ 0 → mid.defects ≡ 0
+works_so old mid caller done lines so (inl honest) none = so.works honest none
+works_so old mid caller done lines so (inr sure) none = sure
 
-pub importing_ends_sure : (old new : Seen) (caller input : List ℕ) (done : List Fields) (lines : List RowResult) → IsImporting old new caller done lines → AreRows input done → new.defects ≡ 0 → IsImported caller input old.state new.state lines
-importing_ends_sure old new caller input done lines so rows none = imported_all old.state new.state caller input done lines (so.sure none) rows
-
-pub some_all : {A : Type 0} (o : Option A) (P : A → Type 0) → ((x : A) → P x) → IfSome o P
-some_all None P p = tt
-some_all (Some x) P p = p x
-
--- no more were
-imported_first : (old mid : State) (new : Seen) (caller input : List ℕ) (done : List Fields) (lines after : List RowResult) → AreImported old mid caller done lines → AreFirstRows input done
-    → after ≡ lines → (new.defects ≡ 0 → new.state ≡ (importing old caller done).state) → StandsInPart caller input old new after
-imported_first old mid new caller input done lines after are first kept state = record { rows = done; are_first = first; lines_are = kept ∙ are.lines_are; state = state }
-
-pub importing_stops : (old mid new : Seen) (caller input : List ℕ) (done : List Fields) (lines after : List RowResult) → IsImporting old mid caller done lines → AreFirstRows input done
-    → (new.corruptions ≡ 0 → mid.corruptions ≡ 0) → (new.defects ≡ 0 → mid.defects ≡ 0) → (new.defects ≡ 0 → new.state ≡ mid.state)
-    → after ≡ lines → new.corruptions ≡ 0 → StandsInPart caller input old.state new after
-importing_stops old mid new caller input done lines after so first corruptions_stay defects_stay same kept none =
-    imported_first old.state mid.state new caller input done lines after (so.honest (corruptions_stay none)) first kept (λ sure. same sure ∙ (so.sure (defects_stay sure)).state)
-
-pub importing_stops_sure : (old mid new : Seen) (caller input : List ℕ) (done : List Fields) (lines after : List RowResult) → IsImporting old mid caller done lines → AreFirstRows input done
-    → (new.defects ≡ 0 → mid.defects ≡ 0) → (new.defects ≡ 0 → new.state ≡ mid.state)
-    → after ≡ lines → new.defects ≡ 0 → StandsInPart caller input old.state new after
-importing_stops_sure old mid new caller input done lines after so first defects_stay same kept none =
-    imported_first old.state mid.state new caller input done lines after (so.sure (defects_stay none)) first kept (λ sure. same sure ∙ (so.sure (defects_stay sure)).state)
+pub reliable_before : (mid new : Seen) → (new.corruptions ≡ 0 → mid.corruptions ≡ 0) → (new.defects ≡ 0 → mid.defects ≡ 0) → IsReliable new → IsReliable mid
+reliable_before mid new corruptions_stay defects_stay (inl honest) = inl (corruptions_stay honest)
+reliable_before mid new corruptions_stay defects_stay (inr sure) = inr (defects_stay sure)

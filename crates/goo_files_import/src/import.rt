@@ -1,20 +1,11 @@
 //! The rows of an import, applied in turn.
-ghost use Rattle.std.specs.Prelude.{◌≡◌, ◌≢◌, ◌++◌, ◌∷◌, [], IfOk, IfErr, IfSome, OnOk, OnErr};
-ghost use Rattle.std.specs.Io.KnownBytes.{IsAtEnd};
+ghost use Rattle.std.specs.Prelude.{◌≡◌, ◌++◌, ◌∷◌, [], IfOk, OnOk, OnErr};
 ghost use Rattle.csv.specs.Records.{fields_of};
-ghost use Rattle.goo_files_import.specs.Import.{row_result, state_after};
-ghost use Rattle.goo_files_import.specs.Table.{LacksHeader};
 ghost use Rattle.goo_core_shelf.specs.Shelf.{IsTold};
 ghost use Rattle.goo_core_shelf.specs.Crash.{FindsEither};
 ghost use Rattle.goo_core_shelf.specs.Desk.{StaysSure};
-ghost use Rattle.goo_files_import.specs.Durable.{FindsReported, reported};
-ghost use Rattle.goo_spec.specs.Sound.{IsSound};
-ghost use Rattle.goo_files_import.specs.Promised.{KeepsPromise};
-ghost use Rattle.goo_files_import.specs.Stands.{IsImported, StandsInPart, IsBeforeRows};
-ghost use Rattle.goo_files_import.specs.Stands.{IsBetweenRows, IsToldIn};
-ghost use Rattle.goo_files_import.specs.declared.cause.Cause.TheVariants.{Header as NoHeader};
-ghost use Rattle.goo_files_import.specs.declared.cause.Cause.TheVariants.{Read as Unread};
-ghost use Rattle.goo_files_import.specs.declared.cause.Cause.TheVariants.{Store as Refused};
+ghost use Rattle.goo_files_import.specs.Import.{row_result, state_after};
+ghost use Rattle.goo_files_import.specs.Runs.{ImportsFirst, IsReliable, LeavesDesk, RunsRows, Stops};
 
 use crate::cause::{Cause, ImportFault};
 use crate::progress::ImportWatcher;
@@ -172,42 +163,11 @@ pub fn import_bytes<D: Desk, P: ImportWatcher>(
     input: &[u8],
     progress: &mut P,
 ) -> Result<Report, ImportFault>
-    ensures whole { (D.seen desk.new).corruptions ≡ 0
-        → IfOk result
-        (λ report. IsImported caller.now input.now (D.seen desk.old).state
-        (D.seen desk.new).state report.lines.items) }
-    ensures sure_whole { (D.seen desk.new).defects ≡ 0
-        → IfOk result
-        (λ report. IsImported caller.now input.now (D.seen desk.old).state
-        (D.seen desk.new).state report.lines.items) }
-    ensures kinds { IfErr result (λ fault. fault.cause ≢ Unread) }
-    ensures header { IfErr result (λ fault. fault.cause ≡ NoHeader → LacksHeader input.now) }
-    ensures lacking { LacksHeader input.now → IfErr result (λ fault. fault.cause ≢ Refused) }
-    ensures before { IfErr result
-        (λ fault. IsBeforeRows fault.cause → (D.seen desk.new ≡ D.seen desk.old)) }
-    ensures before_lines { IfErr result
-        (λ fault. IsBeforeRows fault.cause → fault.report.lines.items ≡ []) }
-    ensures part { (D.seen desk.new).corruptions ≡ 0
-        → IfErr result
-        (λ fault. IsBetweenRows fault.cause
-        → StandsInPart caller.now input.now (D.seen desk.old).state
-        (D.seen desk.new) fault.report.lines.items) }
-    ensures sure_part { (D.seen desk.new).defects ≡ 0
-        → IfErr result
-        (λ fault. IsBetweenRows fault.cause
-        → StandsInPart caller.now input.now (D.seen desk.old).state
-        (D.seen desk.new) fault.report.lines.items) }
-    ensures defects_stay { (D.seen desk.new).defects ≡ 0 → (D.seen desk.old).defects ≡ 0 }
-    ensures corruptions_stay { (D.seen desk.new).corruptions ≡ 0
-        → (D.seen desk.old).corruptions ≡ 0 }
-    ensures told { (D.seen desk.old).refusals ≡ 0 → IsToldIn result (D.seen desk.new).refusals }
-    ensures works { (D.seen desk.new).corruptions ≡ 0 → (D.seen desk.old).defects ≡ 0
-        → OnOk result ((D.seen desk.new).defects ≡ 0) }
-    ensures found { (D.seen desk.new).corruptions ≡ 0 → (D.seen desk.old).defects ≡ 0
-        → FindsReported caller.now input.now (D.seen desk.old).state (D.seen desk.new)
-        (reported result) (D.leaves desk.new) }
-    ensures stays { (D.seen desk.new).corruptions ≡ 0 → (D.seen desk.old).defects ≡ 0
-        → StaysSure (D.seen desk.old) (D.seen desk.new) }
+    ensures imports { IsReliable (D.seen desk.new)
+        → ImportsFirst caller.now (D.seen desk.old) (D.seen desk.new) (D.leaves desk.new) result
+        input.now }
+    ensures stops { Stops input.now (D.seen desk.old) (D.seen desk.new) result }
+    ensures desk { LeavesDesk (D.seen desk.old) (D.seen desk.new) result }
 {
     announce(alloc, input, progress);
     let reader = ReaderBuilder::new()
@@ -242,12 +202,14 @@ pub fn import_bytes<D: Desk, P: ImportWatcher>(
 /// report stand and no others, whatever happens. A row whose key is kept is repeated, so a file may
 /// come twice. `progress` is told how far it is.
 ///
-/// `promised`: what a registry promises after any list of requests holds of the requests of the
-/// rows that were applied, all of them or the first ones
-/// ([`import_is_a_run`](crate::import_is_a_run) says that an import is a run of its rows'
-/// requests). `found`: however it ends, the rows of the report are first rows that a crash finds
-/// applied, and at most one row more. `stays`: however it ends, there is no defect unless a call
-/// below failed. So after a `Memory` with no failed call the state is known, and a crash finds it.
+/// `runs`, whether or not the reader tells its bytes: it gave them to its end, and the first of
+/// their rows were applied, and all of them after an `Ok`. The report is of just these rows, their
+/// state stands, what a registry promises after any list of requests holds of their requests
+/// ([`import_is_a_run`](crate::import_is_a_run) says that an import is a run of them), and a crash
+/// finds them applied, and at most one row more. Or it gave a beginning, and nothing was applied.
+///
+/// `desk`: however it ends, there is no defect unless a call below failed. So after a `Memory` with
+/// no failed call the state is known, and a crash finds it.
 ///
 /// # Errors
 ///
@@ -260,42 +222,13 @@ pub fn import_declarations<D: Desk, R: Read, P: ImportWatcher>(
     reader: &mut R,
     progress: &mut P,
 ) -> Result<Report, ImportFault>
-    ensures whole { (D.seen desk.new).corruptions ≡ 0
-        → IfSome (R.remaining reader.old)
-        (λ input. IfOk result
-        (λ report. IsImported caller.now input (D.seen desk.old).state
-        (D.seen desk.new).state report.lines.items)) }
-    ensures header { IfSome (R.remaining reader.old)
-        (λ input. IfErr result (λ fault. fault.cause ≡ NoHeader → LacksHeader input)) }
-    ensures lacking { IfSome (R.remaining reader.old)
-        (λ input. LacksHeader input → IfErr result (λ fault. fault.cause ≢ Refused)) }
-    ensures before { IfErr result
-        (λ fault. IsBeforeRows fault.cause → (D.seen desk.new ≡ D.seen desk.old)) }
-    ensures before_lines { IfErr result
-        (λ fault. IsBeforeRows fault.cause → fault.report.lines.items ≡ []) }
-    ensures part { (D.seen desk.new).corruptions ≡ 0
-        → IfSome (R.remaining reader.old)
-        (λ input. IfErr result
-        (λ fault. IsBetweenRows fault.cause
-        → StandsInPart caller.now input (D.seen desk.old).state
-        (D.seen desk.new) fault.report.lines.items)) }
-    ensures corruptions_stay { (D.seen desk.new).corruptions ≡ 0
-        → (D.seen desk.old).corruptions ≡ 0 }
-    ensures told { (D.seen desk.old).refusals ≡ 0 → IsToldIn result (D.seen desk.new).refusals }
-    ensures end { OnOk result (IsAtEnd (R.remaining reader.new)) }
-    ensures promised { IsSound (D.seen desk.old).state → (D.seen desk.new).corruptions ≡ 0
-        → IfSome (R.remaining reader.old)
-        (λ input. KeepsPromise caller.now input (D.seen desk.old).state (D.seen desk.new) result) }
-    ensures found { (D.seen desk.new).corruptions ≡ 0 → (D.seen desk.old).defects ≡ 0
-        → IfSome (R.remaining reader.old) (λ input.
-        FindsReported caller.now input (D.seen desk.old).state (D.seen desk.new)
-        (reported result) (D.leaves desk.new)) }
-    ensures stays { (D.seen desk.new).corruptions ≡ 0 → (D.seen desk.old).defects ≡ 0
-        → StaysSure (D.seen desk.old) (D.seen desk.new) }
+    ensures runs { RunsRows caller.now (D.seen desk.old) (D.seen desk.new) (D.leaves desk.new)
+        result (R.remaining reader.old) (R.remaining reader.new) 16_777_216 }
+    ensures desk { LeavesDesk (D.seen desk.old) (D.seen desk.new) result }
 {
     match read_whole(alloc, reader, MOST_INPUT) {
         Ok(input) => import_bytes(alloc, desk, caller, &input, progress),
-        Err(InputFault::Read) => Err(stopped(Vec::new(alloc), Cause::Read)),
+        Err(InputFault::Read | InputFault::TooLong) => Err(stopped(Vec::new(alloc), Cause::Read)),
         Err(InputFault::Memory) => Err(stopped(Vec::new(alloc), Cause::Memory)),
     }
 }

@@ -5,12 +5,11 @@
 //! say nothing of what was written before a fault.
 #![tactic(auto)]
 
-ghost use Rattle.std.specs.Prelude.{◌≡◌, ◌≤◌, ◌<◌, ℕ, List, length, take, IfOk, OnOk, OnErr};
-ghost use Rattle.std.specs.Prelude.{vec_len};
+ghost use Rattle.std.specs.Prelude.{◌≡◌, ◌≢◌, ◌<◌, length, take, IfOk, IfErr, OnOk, OnErr};
 ghost use Rattle.std.specs.Io.{ReadsAtMost, WritesAtMost};
 ghost use Rattle.std.specs.Io.KnownBytes.{Appends, Consumes, Keeps, IsAtEnd};
-ghost use Rattle.goo_files_streams.specs.Streams.{AppendsPrefix, IsWholeOf};
-ghost use Rattle.goo_files_streams.specs.declared.InputFault.TheVariants.{Memory};
+ghost use Rattle.goo_files_streams.specs.Streams.{AppendsPrefix, ReadsWhole};
+ghost use Rattle.goo_files_streams.specs.declared.InputFault.TheVariants.{Memory, TooLong};
 
 use std::alloc::{AllocError, Global};
 use std::io::{ErrorKind, Read, Write};
@@ -22,8 +21,10 @@ pub const MOST_INTERRUPTIONS: u32 = 1_000;
 /// Why an input was not read. What the reader had given is lost, and nothing else happened.
 #[derive(Debug, Clone, Copy, PartialEq, Eq, Drop)]
 pub enum InputFault {
-    /// The reader failed, was interrupted too often, or held more than the limit.
+    /// The reader failed, or was interrupted too often.
     Read,
+    /// The reader held more than the limit.
+    TooLong,
     /// There was no room for the input.
     Memory,
 }
@@ -31,7 +32,8 @@ pub enum InputFault {
 impl fmt::Display for InputFault {
     fn fmt<W: fmt::Write>(&self, f: &mut fmt::Formatter<W>) -> fmt::Result {
         match self {
-            Self::Read => f.write_str("the input failed or was too long"),
+            Self::Read => f.write_str("the input failed"),
+            Self::TooLong => f.write_str("the input is too long"),
             Self::Memory => f.write_str("out of memory"),
         }
     }
@@ -66,6 +68,7 @@ pub fn read_some<R: Read>(reader: &mut R, buffer: &mut [u8]) -> Result<usize, In
     ensures end { IfOk result
         (λ count. count ≡ 0 → 0 < length buffer.old → IsAtEnd (R.remaining reader.new)) }
     ensures fault { OnErr result (Keeps (R.remaining reader.old) (R.remaining reader.new)) }
+    ensures unbounded { IfErr result (λ fault. fault ≢ TooLong) }
 {
     for _ in 0..=MOST_INTERRUPTIONS {
         match reader.read(buffer) {
@@ -112,16 +115,14 @@ pub fn write_some<W: Write>(writer: &mut W, text: &[u8]) -> Result<usize, WriteF
 ///
 /// # Errors
 ///
-/// `Read` where a read fails (see [`read_some`]) or there is a byte more than `limit`; `Memory`
-/// where there is no room. What was read up to then is lost.
+/// `Read` where a read fails (see [`read_some`]), `TooLong` where there is a byte more than `limit`,
+/// and `Memory` where there is no room. The reader has given a beginning then, which is lost.
 pub fn read_whole<R: Read>(
     alloc: Global,
     reader: &mut R,
     limit: usize,
 ) -> Result<Vec<u8>, InputFault>
-    ensures whole { IfOk result (λ input. IsWholeOf (R.remaining reader.old) input.items) }
-    ensures within { IfOk result (λ input. length input.items ≤ limit) }
-    ensures end { OnOk result (IsAtEnd (R.remaining reader.new)) }
+    ensures { ReadsWhole (R.remaining reader.old) (R.remaining reader.new) limit result }
 {
     let mut input = Vec::new(alloc);
     let mut chunk = [0u8; 4096];
@@ -131,7 +132,7 @@ pub fn read_whole<R: Read>(
             return Ok(input);
         }
         if count > limit - input.len() {
-            return Err(InputFault::Read);
+            return Err(InputFault::TooLong);
         }
         input.extend_from_slice(&chunk[..count])?;
     }

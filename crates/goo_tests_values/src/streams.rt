@@ -108,13 +108,9 @@ fn is_text(rt: &impl Abort, read: Result<Vec<u8>, InputFault>, wanted: &[u8]) {
     );
 }
 
-/// Nothing was read.
-fn is_fault(rt: &impl Abort, read: Result<Vec<u8>, InputFault>) {
-    holds(
-        rt,
-        read.err() == Some(InputFault::Read),
-        "a fault of the reader",
-    );
+/// Nothing was read, for this fault.
+fn is_fault(rt: &impl Abort, read: Result<Vec<u8>, InputFault>, wanted: InputFault) {
+    holds(rt, read.err() == Some(wanted), "the fault");
 }
 
 #[test]
@@ -122,17 +118,29 @@ fn a_thousand_interruptions_are_passed_over_and_one_more_is_a_fault(rt: HostRunt
     let mut patient = make_halting(b"ab", 1_000, 10);
     is_text(&rt, read_whole(rt.alloc(), &mut patient, 10), b"ab");
     let mut endless = make_halting(b"ab", 1_001, 10);
-    is_fault(&rt, read_whole(rt.alloc(), &mut endless, 10));
+    is_fault(
+        &rt,
+        read_whole(rt.alloc(), &mut endless, 10),
+        InputFault::Read,
+    );
 }
 
 #[test]
 fn a_fault_in_the_middle_and_at_the_limit(rt: HostRuntime) {
     let mut broken = make_halting(b"abc", 0, 2);
-    is_fault(&rt, read_whole(rt.alloc(), &mut broken, 10));
+    is_fault(
+        &rt,
+        read_whole(rt.alloc(), &mut broken, 10),
+        InputFault::Read,
+    );
     let mut whole = b"abc".as_slice();
     is_text(&rt, read_whole(rt.alloc(), &mut whole, 3), b"abc");
     let mut over = b"abcd".as_slice();
-    is_fault(&rt, read_whole(rt.alloc(), &mut over, 3));
+    is_fault(
+        &rt,
+        read_whole(rt.alloc(), &mut over, 3),
+        InputFault::TooLong,
+    );
 }
 
 #[test]

@@ -8,6 +8,8 @@ use Rattle.goo_files.specs.Texts.{IsStatement}
 use Rattle.sqlite_wal.specs.Reads.{AreClean}
 use Rattle.goo_cli_registry.specs.Closings.{HoldState, IfWhole}
 use Rattle.goo_cli_registry.specs.Finds.{FindsRight, IfParts}
+use Rattle.std.proofs.KnownBytes.{Keeps-refl}
+use Rattle.goo_cli_registry.proofs.DurableLemmas.{opened}
 use Rattle.goo_cli_files.proofs.Begun.{held_as, not_refused, wrote_begun}
 use Rattle.goo_cli_files.proofs.texts.statement_in_files.Goals as goal
 
@@ -45,3 +47,12 @@ returns-in-Ok-clause-kept g c = λ clean db holds.
 
 pub returns-in-Ok-clause-unharmed : goal.returns-in-Ok-clause-unharmed
 returns-in-Ok-clause-unharmed g c clean = not_refused c.close_registry.result _ c.close_registry.ensures.opened
+
+pub returns-in-Ok-clause-words : goal.returns-in-Ok-clause-words
+returns-in-Ok-clause-words g c = opened c.close_registry.result _ c.show_statement-ending.ensures.words
+
+pub returns-in-Ok-clause-refused : goal.returns-in-Ok-clause-refused
+returns-in-Ok-clause-refused g c = not_refused c.close_registry.result _ c.close_registry.ensures.opened
+
+pub returns-in-Err-clause-refused : goal.returns-in-Err-clause-refused
+returns-in-Err-clause-refused g c = record { word = c.in-Err.ensures.word; silent = Keeps-refl _ }

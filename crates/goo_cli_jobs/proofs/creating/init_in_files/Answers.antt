@@ -1,7 +1,7 @@
 use Rattle.std.proofs.Common.{subst, sym}
 use Rattle.goo_spec.specs.Created.{created}
 use Rattle.goo_cli_registry.specs.Closings.{HasSpareLog, IsClean, SparesOrMakes}
-use Rattle.goo_cli_registry.proofs.Files.{denied}
+use Rattle.goo_cli_registry.proofs.Files.{denied, of_init}
 use Rattle.goo_cli_jobs.proofs.creating.init_in_files.Goals as goal
 
 pub returns-in-Err-clause-there : goal.returns-in-Err-clause-there
@@ -12,3 +12,6 @@ returns-in-Ok-clause-left g c = subst (λ left. IsClean left → SparesOrMakes c
 
 pub returns-in-Ok-clause-copied : goal.returns-in-Ok-clause-copied
 returns-in-Ok-clause-copied g c = subst (λ left. HasSpareLog left) (sym c.announce.ensures.left) c.in-Ok.ensures.copied
+
+pub returns-in-Err-clause-words : goal.returns-in-Err-clause-words
+returns-in-Err-clause-words g c = of_init c.in-Err.ensures.words.0 c.in-Err.ending c.in-Err.ensures.words.1

@@ -5,7 +5,7 @@ use Rattle.goo_store_opening.specs.Versions.{state_held}
 use Rattle.goo_store_judge.specs.Holding.{sure}
 use Rattle.goo_store_judge.specs.Moments.{OpensAsEither}
 use Rattle.sqlite.specs.Tree.{Trees}
-use Rattle.goo_cli_registry.proofs.Files.{clean_before, leaves_registry, leaves_same, outside_failure, fault_failure}
+use Rattle.goo_cli_registry.proofs.Files.{clean_before, leaves_registry, leaves_same, of_files, of_opening, outside_failure, fault_failure}
 use Rattle.goo_cli_registry.proofs.opening.open_registry.Goals as goal
 
 pub open_observed-requires-clause-ordered : goal.open_observed-requires-clause-ordered
@@ -47,3 +47,9 @@ returns-in-Err-open_observed-clause-never_foreign g c = λ clean db holds s t ei
 
 pub returns-in-Err-clause-never_foreign : goal.returns-in-Err-clause-never_foreign
 returns-in-Err-clause-never_foreign g c = λ clean db holds s t either. fault_failure c.in-Err.fault c.from.result c.from.ensures
+
+pub returns-in-Err-open_observed-clause-word : goal.returns-in-Err-open_observed-clause-word
+returns-in-Err-open_observed-clause-word g c = of_opening c.in-Err-open_observed.fault c.failure_of.result c.failure_of.ensures
+
+pub returns-in-Err-clause-word : goal.returns-in-Err-clause-word
+returns-in-Err-clause-word g c = of_files c.in-Err.fault c.from.result c.from.ensures

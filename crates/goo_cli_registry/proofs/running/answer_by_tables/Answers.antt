@@ -1,46 +1,33 @@
-use Rattle.std.proofs.Common.{◌≡◌, subst, sym}
+use Rattle.std.proofs.Common.{◌≡◌, inl, inr, subst, sym}
+use Rattle.std.specs.Prelude.{⊤}
+use Rattle.std.proofs.KnownBytes.{Keeps-refl}
 use Rattle.sqlite.specs.Held.{state as view}
 use Rattle.sqlite_trees.specs.View.{doubt}
 use Rattle.goo_store_judge.specs.Moments.{moment}
 use Rattle.goo_spec.specs.Created.{created}
-use Rattle.goo_spec.specs.Sound.{IsSound}
 use Rattle.goo_spec.specs.State.{State}
-use Rattle.goo_cli_ending.proofs.PromiseFacts.{none_promised, promised_as}
-use Rattle.goo_cli_registry.proofs.RunLemmas.{all_done_begun, not_all_done_begun, written_begun}
+use Rattle.goo_cli_ending.specs.Runs.{RunsInput}
+use Rattle.goo_cli_registry.proofs.DurableLemmas.{runs_as}
+use Rattle.goo_cli_registry.proofs.Files.{of_opening}
 use Rattle.goo_cli_registry.proofs.running.answer_by_tables.Goals as goal
 
 -- a store that returned what was written to the end did so when the registry was opened
-pub returns-in-Ok-clause-all_done : goal.returns-in-Ok-clause-all_done
-returns-in-Ok-clause-all_done g c clean status =
-    let low = subst (λ conn. doubt (view g.S.Store conn).is_clean ≡ 0) c.into_connection.ensures.conn clean in
-    let before = subst (λ shelf. doubt (view g.S.Store shelf.conn).is_clean ≡ 0) c.new.ensures (c.answer_by-ending.ensures.corruptions_stay low) in
-    all_done_begun (g.R.Read.remaining c.args.reader.now) _ _
-    (subst (λ shelf. (moment (view g.S.Store shelf.conn) shelf.refused).state ≡ created c.args.opening.code c.args.opening.today c.args.opening.next_serial) (sym c.new.ensures) (c.in-Ok.ensures.state (c.in-Ok.ensures.ready.works before)))
-    (c.answer_by-ending.ensures.all_done low status)
-
-pub returns-in-Ok-clause-not_all_done : goal.returns-in-Ok-clause-not_all_done
-returns-in-Ok-clause-not_all_done g c clean status =
-    let low = subst (λ conn. doubt (view g.S.Store conn).is_clean ≡ 0) c.into_connection.ensures.conn clean in
-    let before = subst (λ shelf. doubt (view g.S.Store shelf.conn).is_clean ≡ 0) c.new.ensures (c.answer_by-ending.ensures.corruptions_stay low) in
-    not_all_done_begun (g.R.Read.remaining c.args.reader.now) _ _
-    (subst (λ shelf. (moment (view g.S.Store shelf.conn) shelf.refused).state ≡ created c.args.opening.code c.args.opening.today c.args.opening.next_serial) (sym c.new.ensures) (c.in-Ok.ensures.state (c.in-Ok.ensures.ready.works before)))
-    (c.answer_by-ending.ensures.not_all_done low status)
-
-pub returns-in-Ok-clause-written : goal.returns-in-Ok-clause-written
-returns-in-Ok-clause-written g c clean status =
-    let low = subst (λ conn. doubt (view g.S.Store conn).is_clean ≡ 0) c.into_connection.ensures.conn clean in
-    let before = subst (λ shelf. doubt (view g.S.Store shelf.conn).is_clean ≡ 0) c.new.ensures (c.answer_by-ending.ensures.corruptions_stay low) in
-    written_begun (g.R.Read.remaining c.args.reader.now) _ _ _ _
-    (subst (λ shelf. (moment (view g.S.Store shelf.conn) shelf.refused).state ≡ created c.args.opening.code c.args.opening.today c.args.opening.next_serial) (sym c.new.ensures) (c.in-Ok.ensures.state (c.in-Ok.ensures.ready.works before)))
-    (c.answer_by-ending.ensures.written low status)
-
-pub returns-in-Ok-clause-promised : goal.returns-in-Ok-clause-promised
-returns-in-Ok-clause-promised g c sound clean =
+pub returns-in-Ok-clause-runs : goal.returns-in-Ok-clause-runs
+returns-in-Ok-clause-runs g c clean =
     let low = subst (λ conn. doubt (view g.S.Store conn).is_clean ≡ 0) c.into_connection.ensures.conn clean in
     let before = subst (λ shelf. doubt (view g.S.Store shelf.conn).is_clean ≡ 0) c.new.ensures (c.answer_by-ending.ensures.corruptions_stay low) in
     let same = subst (λ shelf. (moment (view g.S.Store shelf.conn) shelf.refused).state ≡ created c.args.opening.code c.args.opening.today c.args.opening.next_serial) (sym c.new.ensures) (c.in-Ok.ensures.state (c.in-Ok.ensures.ready.works before)) in
-    promised_as c.answer_by-ending.result.0 (g.R.Read.remaining c.args.reader.now) _ _ _ _ _ _ same (λ t known. tt)
-    (c.answer_by-ending.ensures.promised (subst (λ (s : State). IsSound s) (sym same) sound) low)
+    inl (subst (λ (s : State). RunsInput c.answer_by-ending.result.0 s _ _ (λ _. ⊤) (λ _ _. ⊤) _ _) same
+    (runs_as c.answer_by-ending.result.0 _ _ _ _ _ _ (λ _. ⊤) _ (λ _ _. ⊤) (λ s holds. tt) (λ s t finds. tt) (c.answer_by-ending.ensures.runs low)))
 
-pub returns-in-Err-clause-promised : goal.returns-in-Err-clause-promised
-returns-in-Err-clause-promised g c sound clean = none_promised c.failure_of.result (g.R.Read.remaining c.args.reader.now) _ _ _ sound tt
+pub returns-in-Ok-clause-words : goal.returns-in-Ok-clause-words
+returns-in-Ok-clause-words g c = inl c.answer_by-ending.ensures.words
+
+pub returns-in-Err-clause-runs : goal.returns-in-Err-clause-runs
+returns-in-Err-clause-runs g c clean = inr (record {
+  unopened = record { word = of_opening c.in-Err.fault c.failure_of.result c.failure_of.ensures; silent = Keeps-refl _ };
+  unread = Keeps-refl _;
+})
+
+pub returns-in-Err-clause-words : goal.returns-in-Err-clause-words
+returns-in-Err-clause-words g c = inr (of_opening c.in-Err.fault c.failure_of.result c.failure_of.ensures)

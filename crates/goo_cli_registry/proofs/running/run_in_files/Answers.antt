@@ -1,84 +1,44 @@
 use Rattle.std.proofs.Common.{◌≡◌, subst, sym}
+use Rattle.std.proofs.KnownBytes.{Keeps-refl}
 use Rattle.sqlite.specs.Files.{file_state}
 use Rattle.sqlite_trees.specs.View.{doubt}
+use Rattle.goo_spec.specs.Sound.{IsSound}
+use Rattle.goo_spec.specs.State.{State}
 use Rattle.goo_store_opening.specs.Versions.{state_held}
 use Rattle.goo_store_judge.specs.Moments.{moment}
-use Rattle.goo_cli_registry.proofs.Files.{kept_begun, not_refused}
-use Rattle.goo_cli_registry.proofs.RunLemmas.{all_done_begun, not_all_done_begun, written_begun}
-use Rattle.goo_spec.specs.Sound.{IsSound}
-use Rattle.goo_cli_registry.proofs.StoppedLemmas.{promised_in, stopped_begun, unopened}
-use Rattle.goo_cli_registry.proofs.DurableLemmas.{found_in}
+use Rattle.goo_cli_ending.specs.Runs.{RunsInput}
+use Rattle.goo_cli_registry.specs.Durable.{IsInFile, MayOpen}
+use Rattle.goo_cli_registry.proofs.DurableLemmas.{opened, runs_in}
+use Rattle.goo_cli_registry.proofs.Files.{not_refused}
 use Rattle.goo_cli_registry.proofs.running.run_in_files.Goals as goal
 
 -- files that returned what was written to the end did so when the registry was opened
-pub returns-in-Ok-clause-all_done : goal.returns-in-Ok-clause-all_done
-returns-in-Ok-clause-all_done g c = λ clean db holds status.
+pub returns-in-Ok-clause-runs : goal.returns-in-Ok-clause-runs
+returns-in-Ok-clause-runs g c = λ clean db holds.
     let low = c.close_registry.ensures.clean clean in
     let before = subst (λ shelf. doubt (file_state shelf.conn).is_clean ≡ 0) c.new.ensures (c.answer_by-ending.ensures.corruptions_stay low) in
-    all_done_begun (g.R.Read.remaining c.args.reader.now) _ _
-    (subst (λ shelf. (moment (file_state shelf.conn) shelf.refused).state ≡ state_held db) (sym c.new.ensures) (c.in-Ok.ensures.state db holds (c.in-Ok.ensures.ready.works before)))
-    (c.answer_by-ending.ensures.all_done low status)
+    let none = c.in-Ok.ensures.ready.works before in
+    let same = subst (λ shelf. (moment (file_state shelf.conn) shelf.refused).state ≡ state_held db) (sym c.new.ensures) (c.in-Ok.ensures.state db holds none) in
+    opened c.close_registry.result _ (subst (λ (s : State). RunsInput c.answer_by-ending.result.0 s _ _ (IsInFile c.close_registry.result) (MayOpen c.close_registry.result) _ _) same
+    (runs_in c.close_registry.result c.answer_by-ending.result.0 (moment (file_state c.new.result.shelf.conn) c.new.result.shelf.refused) (moment (file_state c.answer_by-ending.result.1.conn) c.answer_by-ending.result.1.refused) _ _ _ _
+    (c.answer_by-ending.ensures.runs low) (subst (λ shelf. (moment (file_state shelf.conn) shelf.refused).defects ≡ 0) (sym c.new.ensures) none)
+    c.close_registry.ensures.whole c.close_registry.ensures.sure c.close_registry.ensures.found))
 
-pub returns-in-Ok-clause-not_all_done : goal.returns-in-Ok-clause-not_all_done
-returns-in-Ok-clause-not_all_done g c = λ clean db holds status.
+pub returns-in-Ok-clause-sound : goal.returns-in-Ok-clause-sound
+returns-in-Ok-clause-sound g c = λ clean db holds.
     let low = c.close_registry.ensures.clean clean in
     let before = subst (λ shelf. doubt (file_state shelf.conn).is_clean ≡ 0) c.new.ensures (c.answer_by-ending.ensures.corruptions_stay low) in
-    not_all_done_begun (g.R.Read.remaining c.args.reader.now) _ _
-    (subst (λ shelf. (moment (file_state shelf.conn) shelf.refused).state ≡ state_held db) (sym c.new.ensures) (c.in-Ok.ensures.state db holds (c.in-Ok.ensures.ready.works before)))
-    (c.answer_by-ending.ensures.not_all_done low status)
+    let none = c.in-Ok.ensures.ready.works before in
+    opened c.close_registry.result _ (subst (λ (s : State). IsSound s) (c.in-Ok.ensures.state db holds none) (c.in-Ok.ensures.sound none))
 
-pub returns-in-Ok-clause-written : goal.returns-in-Ok-clause-written
-returns-in-Ok-clause-written g c = λ clean db holds status.
-    let low = c.close_registry.ensures.clean clean in
-    let before = subst (λ shelf. doubt (file_state shelf.conn).is_clean ≡ 0) c.new.ensures (c.answer_by-ending.ensures.corruptions_stay low) in
-    written_begun (g.R.Read.remaining c.args.reader.now) _ _ _ _
-    (subst (λ shelf. (moment (file_state shelf.conn) shelf.refused).state ≡ state_held db) (sym c.new.ensures) (c.in-Ok.ensures.state db holds (c.in-Ok.ensures.ready.works before)))
-    (c.answer_by-ending.ensures.written low status)
+pub returns-in-Ok-clause-words : goal.returns-in-Ok-clause-words
+returns-in-Ok-clause-words g c = opened c.close_registry.result _ c.answer_by-ending.ensures.words
 
-pub returns-in-Ok-clause-kept : goal.returns-in-Ok-clause-kept
-returns-in-Ok-clause-kept g c = λ clean db holds status.
-    let low = c.close_registry.ensures.clean clean in
-    let before = subst (λ shelf. doubt (file_state shelf.conn).is_clean ≡ 0) c.new.ensures (c.answer_by-ending.ensures.corruptions_stay low) in
-    kept_begun c.close_registry.result (g.R.Read.remaining c.args.reader.now) _ _ _
-    (subst (λ shelf. (moment (file_state shelf.conn) shelf.refused).state ≡ state_held db) (sym c.new.ensures) (c.in-Ok.ensures.state db holds (c.in-Ok.ensures.ready.works before)))
-    (c.answer_by-ending.ensures.kept low status) c.close_registry.ensures.whole
+pub returns-in-Ok-clause-refused : goal.returns-in-Ok-clause-refused
+returns-in-Ok-clause-refused g c = not_refused c.close_registry.result _ c.close_registry.ensures.opened
 
-pub returns-in-Ok-clause-stopped : goal.returns-in-Ok-clause-stopped
-returns-in-Ok-clause-stopped g c = λ clean db holds.
-    let low = c.close_registry.ensures.clean clean in
-    let before = subst (λ shelf. doubt (file_state shelf.conn).is_clean ≡ 0) c.new.ensures (c.answer_by-ending.ensures.corruptions_stay low) in
-    stopped_begun c.close_registry.result _ (g.R.Read.remaining c.args.reader.now) _ _ _ _ _ _
-    (subst (λ shelf. (moment (file_state shelf.conn) shelf.refused).state ≡ state_held db) (sym c.new.ensures) (c.in-Ok.ensures.state db holds (c.in-Ok.ensures.ready.works before)))
-    (c.answer_by-ending.ensures.stopped low) c.close_registry.ensures.whole c.close_registry.ensures.sure
-
-pub returns-in-Err-clause-stopped : goal.returns-in-Err-clause-stopped
-returns-in-Err-clause-stopped g c = λ clean db holds. unopened (g.R.Read.remaining c.args.reader.now)
+pub returns-in-Err-clause-refused : goal.returns-in-Err-clause-refused
+returns-in-Err-clause-refused g c = record { unopened = record { word = c.in-Err.ensures.word; silent = Keeps-refl _ }; unread = Keeps-refl _ }
 
 pub returns-in-Ok-clause-unharmed : goal.returns-in-Ok-clause-unharmed
 returns-in-Ok-clause-unharmed g c clean = not_refused c.close_registry.result _ c.close_registry.ensures.opened
-
-pub returns-in-Ok-clause-promised : goal.returns-in-Ok-clause-promised
-returns-in-Ok-clause-promised g c = λ clean db holds.
-    let low = c.close_registry.ensures.clean clean in
-    let before = subst (λ shelf. doubt (file_state shelf.conn).is_clean ≡ 0) c.new.ensures (c.answer_by-ending.ensures.corruptions_stay low) in
-    let none = c.in-Ok.ensures.ready.works before in
-    promised_in c.close_registry.result _ (g.R.Read.remaining c.args.reader.now) _ _ _ _ _ _
-    (subst (λ shelf. (moment (file_state shelf.conn) shelf.refused).state ≡ state_held db) (sym c.new.ensures) (c.in-Ok.ensures.state db holds none))
-    (c.answer_by-ending.ensures.promised (subst (λ shelf. IsSound (moment (file_state shelf.conn) shelf.refused).state) (sym c.new.ensures) (c.in-Ok.ensures.sound none)) low)
-    c.close_registry.ensures.whole c.close_registry.ensures.sure
-
-pub returns-in-Err-clause-promised : goal.returns-in-Err-clause-promised
-returns-in-Err-clause-promised g c = λ clean db holds. unopened (g.R.Read.remaining c.args.reader.now)
-
-pub returns-in-Ok-clause-found : goal.returns-in-Ok-clause-found
-returns-in-Ok-clause-found g c = λ clean db holds.
-    let low = c.close_registry.ensures.clean clean in
-    let before = subst (λ shelf. doubt (file_state shelf.conn).is_clean ≡ 0) c.new.ensures (c.answer_by-ending.ensures.corruptions_stay low) in
-    let none = c.in-Ok.ensures.ready.works before in
-    found_in c.close_registry.result (g.R.Read.remaining c.args.reader.now) _ _ (moment (file_state c.answer_by-ending.result.1.conn) c.answer_by-ending.result.1.refused) _ _
-    (subst (λ shelf. (moment (file_state shelf.conn) shelf.refused).state ≡ state_held db) (sym c.new.ensures) (c.in-Ok.ensures.state db holds none))
-    (c.answer_by-ending.ensures.found low (subst (λ shelf. (moment (file_state shelf.conn) shelf.refused).defects ≡ 0) (sym c.new.ensures) none))
-    c.close_registry.ensures.whole c.close_registry.ensures.sure c.close_registry.ensures.found
-
-pub returns-in-Err-clause-found : goal.returns-in-Err-clause-found
-returns-in-Err-clause-found g c = λ clean db holds. unopened (g.R.Read.remaining c.args.reader.now)
