@@ -1,5 +1,5 @@
 -- What the next opening finds of a registry into which rows were imported, or that served connections.
-use Rattle.std.proofs.Common.{◌≡◌, inr, ℕ, List, Option}
+use Rattle.std.proofs.Common.{◌≡◌, inr, subst, ℕ, List, Option}
 use Rattle.sqlite_disk.specs.declared.Disk.{Ghosts}
 use Rattle.sqlite_wal.specs.Reads.{AreClean}
 use Rattle.sqlite.specs.declared.file.Leftover.TheVariants as rest
@@ -15,7 +15,7 @@ use Rattle.goo_cli_registry.specs.Closings.{HoldState, IfWhole}
 use Rattle.goo_cli_registry.specs.Finds.{FindsRight, IfParts}
 use Rattle.goo_cli_registry.specs.declared.closing.Left.{Left}
 use Rattle.goo_cli_registry.specs.declared.closing.Left.TheVariants.{Parts, Refused, Whole}
-use Rattle.goo_cli_registry.proofs.DurableLemmas.{in_file, one_of, sure_state}
+use Rattle.goo_cli_registry.proofs.DurableLemmas.{in_file, one_of, opened, sure_state}
 use Rattle.goo_cli_ending.specs.Runs.{HasState, MayFind}
 use Rattle.goo_cli_ending.specs.declared.ending.Ending.{Ending}
 use Rattle.goo_cli_registry.specs.Durable.{IfOpened, IsInFile, MayOpen}
@@ -37,6 +37,12 @@ rows_in of told old new had has before after it none whole sure parts = record {
   promised = it.promised;
   found = one_of of _ _ new (sure_state told (seen_of new) _ it.holds) (it.found none) whole sure parts;
 }
+
+-- from the state that the files held, where a registry was opened
+pub rows_from : {D : Type 0} {g : Ghosts D} (of : Left D g) (told : Ending) (old new : Moment) (begun : State) (had has before after : Option (List ℕ)) → old.state ≡ begun → DeclaresRows told old.state had has (HasState told (seen_of new)) (MayFind (seen_of old) new.leaves) before after
+    → old.defects ≡ 0 → IfWhole of (λ files. HoldState g files new.state) → IfWhole of (λ files. AreClean g files.log files.db → new.defects ≡ 0) → IfParts of (FindsRight new.leaves) → IfOpened of (DeclaresRows told begun had has (IsInFile of) (MayOpen of) before after)
+rows_from of told old new begun had has before after same it none whole sure parts =
+    opened of _ (subst (λ (s : State). DeclaresRows told s had has (IsInFile of) (MayOpen of) before after) same (rows_in of told old new had has before after it none whole sure parts))
 
 pub connections_served : {D : Type 0} {g : Ghosts D} (of : Left D g) (from now : Clients) (first : Seen) (new : Moment) (begun : State) → first.state ≡ begun → first.defects ≡ 0 → new.corruptions ≡ 0
     → ServesTo from now first (seen_of new) new.leaves → IfParts of (FindsRight new.leaves) → IfOpened of (ServesConnections from now begun (IsLeftToFind of))

@@ -1,5 +1,6 @@
 -- What the next opening finds of a registry that was closed.
 use Rattle.std.proofs.Common.{◌≡◌, ◌⊎◌, subst, ℕ, List, Option, Some}
+use Rattle.std.specs.Prelude.{⊤}
 use Rattle.sqlite_disk.specs.declared.Disk.{Ghosts}
 use Rattle.sqlite_wal.specs.Reads.{AreClean}
 use Rattle.sqlite.specs.declared.file.Leftover.TheVariants as rest
@@ -88,3 +89,14 @@ runs_as told old had has before after Holds Told Finds Found holds finds it = re
   promised = it.promised;
   found = finds _ _ it.found;
 }
+
+-- from the state that the files held, where a registry was opened
+pub runs_from : {D : Type 0} {g : Ghosts D} (of : Left D g) (told : Ending) (old new : Moment) (begun : State) (had has before after : Option (List ℕ)) → old.state ≡ begun → RunsInput told old.state had has (HasState told (seen_of new)) (MayFind (seen_of old) new.leaves) before after
+    → old.defects ≡ 0 → IfWhole of (λ files. HoldState g files new.state) → IfWhole of (λ files. AreClean g files.log files.db → new.defects ≡ 0) → IfParts of (FindsRight new.leaves) → IfOpened of (RunsInput told begun had has (IsInFile of) (MayOpen of) before after)
+runs_from of told old new begun had has before after same it none whole sure parts =
+    opened of _ (subst (λ (s : State). RunsInput told s had has (IsInFile of) (MayOpen of) before after) same (runs_in of told old new had has before after it none whole sure parts))
+
+-- and from the state that a registry in memory began with
+pub runs_begun : (told : Ending) (old begun : State) (had has before after : Option (List ℕ)) (Holds : State → Type 0) (Finds : State → State → Type 0) → old ≡ begun → RunsInput told old had has Holds Finds before after → RunsInput told begun had has (λ _. ⊤) (λ _ _. ⊤) before after
+runs_begun told old begun had has before after Holds Finds same it =
+    subst (λ (s : State). RunsInput told s had has (λ _. ⊤) (λ _ _. ⊤) before after) same (runs_as told old had has before after Holds (λ _. ⊤) Finds (λ _ _. ⊤) (λ s holds. tt) (λ s t finds. tt) it)

@@ -8,11 +8,9 @@ use Rattle.goo_spec.specs.State.{State}
 use Rattle.goo_store_opening.specs.Versions.{state_held}
 use Rattle.goo_store_judge.specs.Moments.{moment}
 use Rattle.goo_cli_registry.specs.Closings.{HoldState, IfWhole}
-use Rattle.goo_cli_registry.specs.Durable.{IsInFile, MayOpen}
 use Rattle.goo_cli_registry.specs.Finds.{FindsRight, IfParts}
 use Rattle.goo_cli_registry.proofs.DurableLemmas.{opened}
-use Rattle.goo_cli_texts.specs.Declaring.{DeclaresRows}
-use Rattle.goo_cli_files.proofs.DurableLemmas.{rows_in}
+use Rattle.goo_cli_files.proofs.DurableLemmas.{rows_from}
 use Rattle.goo_cli_files.proofs.Begun.{not_refused}
 use Rattle.goo_cli_files.proofs.texts.declare_in_files.Goals as goal
 
@@ -22,12 +20,11 @@ returns-in-Ok-clause-runs g c = λ clean db holds.
     let before = subst (λ shelf. doubt (file_state shelf.conn).is_clean ≡ 0) c.new-registry.ensures (c.declare-ending.ensures.corruptions_stay low) in
     let none = c.in-Ok.ensures.ready.works before in
     let same = subst (λ shelf. (moment (file_state shelf.conn) shelf.refused).state ≡ state_held db) (sym c.new-registry.ensures) (c.in-Ok.ensures.state db holds none) in
-    opened c.close_registry.result _ (subst (λ (s : State). DeclaresRows c.declare-ending.result s _ _ (IsInFile c.close_registry.result) (MayOpen c.close_registry.result) _ _) same
-    (rows_in c.close_registry.result c.declare-ending.result (moment (file_state c.new-registry.result.shelf.conn) c.new-registry.result.shelf.refused) (moment (file_state c.declare-ending.new.registry.shelf.conn) c.declare-ending.new.registry.shelf.refused) _ _ _ _
+    rows_from c.close_registry.result c.declare-ending.result (moment (file_state c.new-registry.result.shelf.conn) c.new-registry.result.shelf.refused) (moment (file_state c.declare-ending.new.registry.shelf.conn) c.declare-ending.new.registry.shelf.refused) (state_held db) _ _ _ _ same
     (c.declare-ending.ensures.runs low) (subst (λ shelf. (moment (file_state shelf.conn) shelf.refused).defects ≡ 0) (sym c.new-registry.ensures) none)
     (subst (λ shelf. IfWhole c.close_registry.result (λ files. HoldState g.D.Disk files (moment (file_state shelf.conn) shelf.refused).state)) c.into_shelf.ensures c.close_registry.ensures.whole)
     (subst (λ shelf. IfWhole c.close_registry.result (λ files. AreClean g.D.Disk files.log files.db → (moment (file_state shelf.conn) shelf.refused).defects ≡ 0)) c.into_shelf.ensures c.close_registry.ensures.sure)
-    (subst (λ shelf. IfParts c.close_registry.result (FindsRight (moment (file_state shelf.conn) shelf.refused).leaves)) c.into_shelf.ensures c.close_registry.ensures.found)))
+    (subst (λ shelf. IfParts c.close_registry.result (FindsRight (moment (file_state shelf.conn) shelf.refused).leaves)) c.into_shelf.ensures c.close_registry.ensures.found)
 
 pub returns-in-Ok-clause-sound : goal.returns-in-Ok-clause-sound
 returns-in-Ok-clause-sound g c = λ clean db holds.

@@ -1,13 +1,10 @@
 use Rattle.std.proofs.Common.{◌≡◌, inl, inr, subst, sym}
-use Rattle.std.specs.Prelude.{⊤}
 use Rattle.std.proofs.KnownBytes.{Keeps-refl}
 use Rattle.sqlite.specs.Held.{state as view}
 use Rattle.sqlite_trees.specs.View.{doubt}
 use Rattle.goo_store_judge.specs.Moments.{moment}
 use Rattle.goo_spec.specs.Created.{created}
-use Rattle.goo_spec.specs.State.{State}
-use Rattle.goo_cli_ending.specs.Runs.{RunsInput}
-use Rattle.goo_cli_registry.proofs.DurableLemmas.{runs_as}
+use Rattle.goo_cli_registry.proofs.DurableLemmas.{runs_begun}
 use Rattle.goo_cli_registry.proofs.Files.{of_opening}
 use Rattle.goo_cli_registry.proofs.running.answer_by_tables.Goals as goal
 
@@ -17,8 +14,7 @@ returns-in-Ok-clause-runs g c clean =
     let low = subst (λ conn. doubt (view g.S.Store conn).is_clean ≡ 0) c.into_connection.ensures.conn clean in
     let before = subst (λ shelf. doubt (view g.S.Store shelf.conn).is_clean ≡ 0) c.new.ensures (c.answer_by-ending.ensures.corruptions_stay low) in
     let same = subst (λ shelf. (moment (view g.S.Store shelf.conn) shelf.refused).state ≡ created c.args.opening.code c.args.opening.today c.args.opening.next_serial) (sym c.new.ensures) (c.in-Ok.ensures.state (c.in-Ok.ensures.ready.works before)) in
-    inl (subst (λ (s : State). RunsInput c.answer_by-ending.result.0 s _ _ (λ _. ⊤) (λ _ _. ⊤) _ _) same
-    (runs_as c.answer_by-ending.result.0 _ _ _ _ _ _ (λ _. ⊤) _ (λ _ _. ⊤) (λ s holds. tt) (λ s t finds. tt) (c.answer_by-ending.ensures.runs low)))
+    inl (runs_begun c.answer_by-ending.result.0 _ _ _ _ _ _ _ _ same (c.answer_by-ending.ensures.runs low))
 
 pub returns-in-Ok-clause-words : goal.returns-in-Ok-clause-words
 returns-in-Ok-clause-words g c = inl c.answer_by-ending.ensures.words

@@ -6,9 +6,7 @@ use Rattle.goo_spec.specs.Sound.{IsSound}
 use Rattle.goo_spec.specs.State.{State}
 use Rattle.goo_store_opening.specs.Versions.{state_held}
 use Rattle.goo_store_judge.specs.Moments.{moment}
-use Rattle.goo_cli_ending.specs.Runs.{RunsInput}
-use Rattle.goo_cli_registry.specs.Durable.{IsInFile, MayOpen}
-use Rattle.goo_cli_registry.proofs.DurableLemmas.{opened, runs_in}
+use Rattle.goo_cli_registry.proofs.DurableLemmas.{opened, runs_from}
 use Rattle.goo_cli_registry.proofs.Files.{not_refused}
 use Rattle.goo_cli_registry.proofs.running.run_in_files.Goals as goal
 
@@ -19,10 +17,9 @@ returns-in-Ok-clause-runs g c = λ clean db holds.
     let before = subst (λ shelf. doubt (file_state shelf.conn).is_clean ≡ 0) c.new.ensures (c.answer_by-ending.ensures.corruptions_stay low) in
     let none = c.in-Ok.ensures.ready.works before in
     let same = subst (λ shelf. (moment (file_state shelf.conn) shelf.refused).state ≡ state_held db) (sym c.new.ensures) (c.in-Ok.ensures.state db holds none) in
-    opened c.close_registry.result _ (subst (λ (s : State). RunsInput c.answer_by-ending.result.0 s _ _ (IsInFile c.close_registry.result) (MayOpen c.close_registry.result) _ _) same
-    (runs_in c.close_registry.result c.answer_by-ending.result.0 (moment (file_state c.new.result.shelf.conn) c.new.result.shelf.refused) (moment (file_state c.answer_by-ending.result.1.conn) c.answer_by-ending.result.1.refused) _ _ _ _
+    runs_from c.close_registry.result c.answer_by-ending.result.0 (moment (file_state c.new.result.shelf.conn) c.new.result.shelf.refused) (moment (file_state c.answer_by-ending.result.1.conn) c.answer_by-ending.result.1.refused) (state_held db) _ _ _ _ same
     (c.answer_by-ending.ensures.runs low) (subst (λ shelf. (moment (file_state shelf.conn) shelf.refused).defects ≡ 0) (sym c.new.ensures) none)
-    c.close_registry.ensures.whole c.close_registry.ensures.sure c.close_registry.ensures.found))
+    c.close_registry.ensures.whole c.close_registry.ensures.sure c.close_registry.ensures.found
 
 pub returns-in-Ok-clause-sound : goal.returns-in-Ok-clause-sound
 returns-in-Ok-clause-sound g c = λ clean db holds.
