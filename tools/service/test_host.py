@@ -437,7 +437,8 @@ def planted(stage: Stage) -> Iterator[Stage]:
                 'openssl req -x509 -newkey ec -pkeyopt ec_paramgen_curve:P-256 -nodes -days 90 '
                 '-subj /CN=a.example -keyout /etc/goo/tls/key.pem -out /etc/goo/tls/cert.pem 2> /dev/null\n'
                 'chmod 600 /etc/goo/tls/key.pem; : > /etc/goo/callers; : > /etc/goo/users\n'
-                f'mkdir {COPY}; echo x > {COPY}/registry.db; echo "{{\\"n\\": 3}}" > {COPY}/place.json\n')
+                f'mkdir {COPY}; sqlite3 {COPY}/registry.db "CREATE TABLE receipt (x); INSERT INTO receipt VALUES (1)"\n'
+                f'echo "{{\\"n\\": 3}}" > {COPY}/place.json\n')
     yield stage
 
 
