@@ -138,17 +138,22 @@ def password_of(given, name):
     return text
 
 
-def meta_of(database, column, user='goo'):
-    """A number that a database keeps of itself, read as the user who owns it. A log beside the file is not read."""
+def told_by_meta(database, column, form):
+    """What a database keeps of itself, in this form, read as the user who owns it. A log beside the file is not read."""
     asked = f'{IS_FILE} && exec sqlite3 -init /dev/null -batch "file:$1?mode=ro&immutable=1" "SELECT {column} FROM meta"'
     try:
-        done = as_user(user, 'sh', '-c', asked, 'sh', database, timeout=SECONDS)
+        done = as_user('goo', 'sh', '-c', asked, 'sh', database, timeout=SECONDS)
     except subprocess.TimeoutExpired as fault:
         raise Refused(f'{database}: it cannot be read within {SECONDS} s') from fault
     said = done.stdout.decode(errors='replace').strip()
-    if not re.fullmatch('[0-9]{1,9}', said):
+    if not re.fullmatch(form, said, re.ASCII):
         raise Refused(f'{database}: {done.stderr.decode(errors="replace").strip() or "no file that tells its " + column}')
-    return int(said)
+    return said
+
+
+def meta_of(database, column):
+    """A number that a database keeps of itself."""
+    return int(told_by_meta(database, column, r'\d{1,15}'))
 
 
 def code_of_registry():

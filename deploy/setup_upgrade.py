@@ -120,7 +120,7 @@ def begin_others() -> None:
     for path in (*(ETC / name for name in ('callers', 'callers.map')), *LOGS.glob('*')):
         if path.exists():               # an earlier version has shown them to every user of the host
             path.chmod(path.stat().st_mode & 0o640)
-    for unit in NEWER:                              # one that is masked stays so
+    for unit in NEWER if is_active('goo.service') else ():      # one that is masked stays so
         if says('systemctl', 'is-enabled', unit) == 'disabled':
             run('systemctl', 'enable', '--now', unit)
     if is_active('nginx'):

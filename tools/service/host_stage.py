@@ -14,7 +14,6 @@ import struct
 import subprocess
 import sys
 import tempfile
-from collections.abc import Sequence
 from dataclasses import dataclass
 from pathlib import Path
 
@@ -184,7 +183,7 @@ class Stage:
 
     def begin(self, *words: object) -> subprocess.Popen[bytes]:
         """A command that goes on."""
-        said = open(self.folder.with_suffix('.said'), 'wb')
+        said = open(self.folder / 'said', 'ab')
         return subprocess.Popen([*self.inside, *map(str, words)], stdin=subprocess.DEVNULL,
                                 stdout=said, stderr=said, cwd='/')
 
@@ -260,7 +259,3 @@ def script_of(package: Path, name: str) -> str:
     """A maintainer script of the package, as tools/package writes it."""
     found = re.search(rf"(?ms)^    '{name}': '''(.*?)^''',$", package.read_text(encoding='utf-8'))
     return found[1] if found else sys.exit(f'{package} has no {name}')
-
-
-def shown(words: Sequence[str]) -> str:
-    return '\n'.join(words)

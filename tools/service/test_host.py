@@ -307,6 +307,14 @@ def test_what_around_the_registry_refuses_the_new_version_is_told(registry: Stag
     assert done.status == 0, done
 
 
+def test_a_registry_that_was_stopped_stays_so(registry: Stage) -> None:
+    registry.shell(f'systemctl stop {" ".join(RUNS)}; : > /run/stage/openings')
+    unpack(registry)
+    done = configure(registry)
+    assert done.status == 0 and registry.active() == set(), (done, registry.active())
+    assert registry.lines('/run/stage/openings') == []
+
+
 def test_a_host_of_three_waits_for_its_renewal(registry: Stage) -> None:
     registry.put('/etc/goo/replica.env', 'REPLICA_WORDS=--name h1 --code 7 --etcd https://192.0.2.1:2379\n')
     unpack(registry)
@@ -437,7 +445,8 @@ def planted(stage: Stage) -> Iterator[Stage]:
                 'openssl req -x509 -newkey ec -pkeyopt ec_paramgen_curve:P-256 -nodes -days 90 '
                 '-subj /CN=a.example -keyout /etc/goo/tls/key.pem -out /etc/goo/tls/cert.pem 2> /dev/null\n'
                 'chmod 600 /etc/goo/tls/key.pem; : > /etc/goo/callers; : > /etc/goo/users\n'
-                f'mkdir {COPY}; echo x > {COPY}/registry.db; echo "{{\\"n\\": 3}}" > {COPY}/place.json\n')
+                f'mkdir {COPY}; sqlite3 {COPY}/registry.db "CREATE TABLE receipt (x); INSERT INTO receipt VALUES (1)"\n'
+                f'echo "{{\\"n\\": 3}}" > {COPY}/place.json\n')
     yield stage
 
 
