@@ -128,10 +128,12 @@ module _ (shows : Showing) (imports : Importing) (begins : Beginning) where
 
   by_fault : (of : InputFault) (m : Seen) (had : Option (List ℕ)) (r w : Bool) → IsOfReader of r → (bytes : List ℕ) → Ends shows imports begins bytes m m had had (r || w) (Err (of_reading of))
   by_fault reading.Read m had r w failed bytes = (refl, of_reader r w failed, keeps-same had)
+  by_fault reading.TooLong m had r w failed bytes = (refl, of_reader r w failed, keeps-same had)
   by_fault reading.Memory m had r w failed bytes = (refl, keeps-same had)
 
   told_by_fault : (of : InputFault) (n : ℕ) → n ≡ 0 → IsToldIn {T = Served} (Err (of_reading of)) n
   told_by_fault reading.Read n none = none
+  told_by_fault reading.TooLong n none = none
   told_by_fault reading.Memory n none = none
 
   -- the reader failed, or there was no room

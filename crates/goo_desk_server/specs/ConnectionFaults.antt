@@ -13,6 +13,7 @@ of_reading reading.Memory = Memory
 -- a fault of the reader is told only where a call of it failed
 abbrev pub IsOfReader : InputFault → Bool → Type 0
 IsOfReader reading.Read failed = IsTrue failed
+IsOfReader reading.TooLong failed = IsTrue failed
 IsOfReader reading.Memory failed = Unit {0}
 
 -- a fault of the store is told just where a call was refused
