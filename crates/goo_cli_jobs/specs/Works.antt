@@ -4,17 +4,19 @@ use Rattle.std.specs.FinMap.{get}
 use Rattle.std.specs.Io.KnownBytes.{Keeps}
 use Rattle.sqlite_disk.specs.declared.Disk.{Ghosts}
 use Rattle.goo_spec.specs.State.{State}
+use Rattle.goo_spec.specs.Sound.{IsSound}
 use Rattle.goo_desk_server.specs.Runs as served
 use Rattle.goo_files.specs.Texts.{IsStatement, IsAuditText}
 use Rattle.goo_files.specs.Writes.{Wrote}
 use Rattle.goo_cli.specs.Asked.{Asked, InFile, Init, Run, Declare, Statement, Audit, Serve}
 use Rattle.goo_cli_ending.specs.declared.ending.Ending.{Ending}
-use Rattle.goo_cli_ending.specs.Endings.{status_of}
+use Rattle.goo_cli_ending.specs.Endings.{IsOfLines, status_of}
+use Rattle.goo_cli_texts.specs.Endings.{IsOfImport}
 use Rattle.goo_cli_ending.specs.Runs.{RunsInput}
-use Rattle.goo_cli_registry.specs.Durable.{IfOpened, IsInFile, MayOpen}
+use Rattle.goo_cli_registry.specs.Durable.{IfOpened, IsInFile, IsUnbegun, MayOpen}
 use Rattle.goo_cli_texts.specs.Declaring.{DeclaresRows}
 use Rattle.goo_cli_registry.specs.declared.closing.Left.{Left}
-use Rattle.goo_cli_registry.specs.Closings.{HoldsSome}
+use Rattle.goo_cli_registry.specs.Closings.{HoldsSome, IfRefused}
 use Rattle.goo_cli_registry.specs.Finds.{HasState}
 use Rattle.goo_desk_listener.specs.Clients.{Clients}
 use Rattle.goo_cli_files.specs.ServerEndings.{IsCounted}
@@ -40,12 +42,19 @@ asked_for (job.InFile file done) = asked_in file.now done
 asked_for (job.InMemory opening done) = asked_in_memory opening done
 
 module _ {D : Type 0} {g : Ghosts D} (s : State) (before after had has : Option (List ℕ)) (told : Ending) (rest : Left D g) where
-  -- the lines of an input were answered from this state on, or the rows of a table imported, where a registry was opened
-  abbrev pub AreAnswered : Type 0
-  AreAnswered = IfOpened rest (RunsInput told s had has (IsInFile rest) (MayOpen rest) before after)
+  -- the lines of an input were answered from this state on, where a registry was opened, and the words of lines are told; else nothing was read
+  pub record AreAnswered : Type 0 where
+    pub runs : IfOpened rest (RunsInput told s had has (IsInFile rest) (MayOpen rest) before after)
+    pub sound : IfOpened rest (IsSound s)
+    pub words : IfOpened rest (IsOfLines told)
+    pub refused : IfRefused rest (λ _. IsUnbegun told had has before after)
 
-  abbrev pub AreImported : Type 0
-  AreImported = IfOpened rest (DeclaresRows told s had has (IsInFile rest) (MayOpen rest) before after)
+  -- the rows of a table were imported, likewise
+  pub record AreImported : Type 0 where
+    pub runs : IfOpened rest (DeclaresRows told s had has (IsInFile rest) (MayOpen rest) before after)
+    pub sound : IfOpened rest (IsSound s)
+    pub words : IfOpened rest (IsOfImport told)
+    pub refused : IfRefused rest (λ _. IsUnbegun told had has before after)
 
   -- the statement of an account is shown, or there is no such account and nothing is written; the registry stays as it was
   pub record IsStated (account : ℕ) : Type 0 where

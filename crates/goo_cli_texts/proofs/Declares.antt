@@ -17,7 +17,7 @@ use Rattle.goo_files_import.specs.declared.row_result.RowResult.{RowResult}
 use Rattle.goo_files_import.proofs.PromiseFacts.{rows_promised}
 use Rattle.goo_cli_ending.specs.Runs.{HasState, MayFind}
 use Rattle.goo_cli_ending.specs.declared.ending.Ending.{Ending}
-use Rattle.goo_cli_texts.specs.Declaring.{DeclaresRows, Sends}
+use Rattle.goo_cli_texts.specs.Declaring.{DeclaresRows, IsUntouched, Sends}
 use Rattle.goo_cli_texts.specs.Endings.{all_stand, ending_of_import}
 
 text_as : (had has : Option (List ℕ)) (rows others : List RowResult) → rows ≡ others → AppendsPrefix had has (report_text rows) → AppendsPrefix had has (report_text others)
@@ -164,3 +164,31 @@ pub declares_fault : (caller : List ℕ) → caller ≡ issuer → (old new : Se
     → RunsRows caller old new leaves (Err fault) before after 16777216 → new.corruptions ≡ 0 → (told : Ending) → Sends (Some fault.cause) fault.report.lines.items had has told → DeclaresRows told old.state had has (HasState told new) (MayFind old leaves) before after
 declares_fault caller same old new had has leaves before after settled fault runs honest told sent =
     on_fault old new had has leaves before after settled fault (subst (λ (c : List ℕ). RunsRows c old new leaves (Err fault) before after 16777216) same runs) honest told sent
+
+module _ (old new : Seen) where
+  none_untouched : (all out : Bool) → IsUntouched (ending_of_import None all out) old new
+  none_untouched all false = tt
+  none_untouched true true = tt
+  none_untouched false true = tt
+
+  stop_untouched : (cause : Cause) (input : List ℕ) (lines : List RowResult) (all out : Bool) → StopsBy input old new lines cause → IsUntouched (ending_of_import (Some cause) all out) old new
+  stop_untouched Header input lines all out stops = stops.seen
+  stop_untouched Read input lines all out stops = absurd stops
+  stop_untouched Store input lines all out stops = tt
+  stop_untouched Memory input lines all out stops = tt
+
+  down_untouched : (cause : Cause) (all out : Bool) → new ≡ old → IsOfReading cause → IsUntouched (ending_of_import (Some cause) all out) old new
+  down_untouched Read all out same why = same
+  down_untouched Memory all out same why = tt
+  down_untouched Header all out same why = absurd why
+  down_untouched Store all out same why = absurd why
+
+  pub report_untouched : (had has : Option (List ℕ)) (report : Report) (told : Ending) → Sends None report.lines.items had has told → IsUntouched told old new
+  report_untouched had has report told sent = subst (λ e. IsUntouched e old new) (sym sent.tells) (none_untouched (all_stand report.lines.items) sent.out)
+
+  pub fault_untouched : (caller : List ℕ) (leaves : Option State → Type 0) (before after had has : Option (List ℕ)) (fault : ImportFault) → RunsRows caller old new leaves (Err fault) before after 16777216 → (told : Ending)
+      → Sends (Some fault.cause) fault.report.lines.items had has told → IsUntouched told old new
+  fault_untouched caller leaves before after had has fault (inl it) told sent =
+      subst (λ e. IsUntouched e old new) (sym sent.tells) (stop_untouched fault.cause it.input fault.report.lines.items (all_stand fault.report.lines.items) sent.out it.stops)
+  fault_untouched caller leaves before after had has fault (inr it) told sent =
+      subst (λ e. IsUntouched e old new) (sym sent.tells) (down_untouched fault.cause (all_stand fault.report.lines.items) sent.out it.seen it.down.cause)

@@ -5,6 +5,7 @@ use Rattle.goo_spec.specs.Checks.{issuer}
 use Rattle.goo_spec.specs.Promise.{IsPromised}
 use Rattle.goo_spec.specs.Sound.{IsSound}
 use Rattle.goo_spec.specs.State.{State}
+use Rattle.goo_core_shelf.specs.Desk.{Seen}
 use Rattle.goo_files_streams.specs.Streams.{AppendsPrefix, IsWhole}
 use Rattle.goo_files_import.specs.Import.{importing, requests_of}
 use Rattle.goo_files_import.specs.Report.{report_text}
@@ -45,6 +46,12 @@ AreApplied (ending.Failed failure.Write) input rows upto = AreRows input rows
 AreApplied (ending.Failed failure.Read) input rows upto = ⊥
 AreApplied (ending.Denied denial) input rows upto = LacksHeader input × (rows ≡ []) × (upto ≡ [])
 AreApplied _ input rows upto = Unit {0}
+
+-- a table that was not read, or that lacks its header, leaves the records as they were
+abbrev pub IsUntouched : Ending → (old new : Seen) → Type 0
+IsUntouched (ending.Failed failure.Read) old new = new ≡ old
+IsUntouched (ending.Denied denial) old new = new ≡ old
+IsUntouched _ old new = Unit {0}
 
 module _ (told : Ending) (old : State) (had has : Option (List ℕ)) (Holds : State → Type 0) (Finds : State → State → Type 0) (before after : Option (List ℕ)) where
   -- first rows of a table that was read to its end, within the limit; one that was turned down counts as none

@@ -8,7 +8,7 @@ ghost use Rattle.goo_registry.specs.Desks.{seen_of};
 ghost use Rattle.goo_cli_ending.specs.Endings.{status_of};
 ghost use Rattle.goo_cli_ending.specs.Runs.{HasState, MayFind};
 ghost use Rattle.goo_cli_texts.specs.Endings.{all_stand, ending_of_import, IsOfImport, stands};
-ghost use Rattle.goo_cli_texts.specs.Declaring.{DeclaresRows, Sends};
+ghost use Rattle.goo_cli_texts.specs.Declaring.{DeclaresRows, IsUntouched, Sends};
 
 use crate::issuer::issuer;
 use crate::progress_line::ProgressLine;
@@ -89,6 +89,8 @@ fn finish<W: Write + Drop>(
 ///   The registry has what they come to, what it promises after any list of requests holds of their
 ///   requests, and a crash finds them imported, and one row more at most. An input that is turned
 ///   down changes nothing.
+/// - `untouched`: a table that was not read, or that lacks its header, leaves the records as they
+///   were.
 /// - `words`: it ends as an import does.
 /// - `flushed`: with status 0 nothing is left in the writer's buffer.
 /// - `corruptions_stay`: what keeps the records returned what was written before, where it did so to
@@ -106,6 +108,8 @@ pub fn declare<S: Shelf, R: Read, W: Write + Drop, T: Write>(
         (HasState result (seen_of (S.seen registry.new.shelf)))
         (MayFind (seen_of (S.seen registry.old.shelf)) (S.seen registry.new.shelf).leaves)
         (R.remaining reader.old) (R.remaining reader.new) }
+    ensures untouched { IsUntouched result (seen_of (S.seen registry.old.shelf))
+        (seen_of (S.seen registry.new.shelf)) }
     ensures words { IsOfImport result }
     ensures flushed { status_of result ≡ 0 → writer_buffer writer.new ≡ [] }
     ensures corruptions_stay { (S.seen registry.new.shelf).corruptions ≡ 0
