@@ -23,8 +23,8 @@ impl<'a, C: Clock, S: Wire> Sender<'a, C, S> {
     /// One write to the stream, while there is time.
     fn send_once(&mut self, text: &[u8]) -> io::Result<usize>
         ensures bound { WritesAtMost result text.now }
-        ensures bytes { WriteAppends (S.contents self.old.stream) (S.contents self.new.stream) result
-            text.now }
+        ensures bytes { WriteAppends (S.contents self.old.stream) (S.contents self.new.stream)
+            result text.now }
         ensures failed { OnErr result (IsTrue (S.failed self.new.stream)) }
         ensures idle { IfOk result (λ count. count ≡ 0 → 0 < length text.now
             → IsTrue (S.failed self.new.stream)) }

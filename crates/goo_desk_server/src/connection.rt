@@ -24,8 +24,8 @@ pub struct Served {
 
 /// Sends a reply of this status.
 fn send_reply<W: Outlet>(writer: &mut W, status: Status, text: &[u8]) -> Result<Served, ServeFault>
-    ensures { SendsReply (W.contents writer.old) (W.contents writer.new) (W.failed writer.new) status
-        text.now result }
+    ensures { SendsReply (W.contents writer.old) (W.contents writer.new) (W.failed writer.new)
+        status text.now result }
 {
     writer.send(text)?;
     Ok(Served { status })
