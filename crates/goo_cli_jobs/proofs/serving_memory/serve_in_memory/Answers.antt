@@ -15,4 +15,4 @@ returns-in-Err-clause-serves g c = inl refl
 -- a file in memory corrupts nothing
 pub returns-clause-serves : goal.returns-clause-serves
 unfolding state
-returns-clause-serves g c = c.serve_new.ensures.serves (honest (file_state c.serve_new.result.1).is_clean refl)
+returns-clause-serves g c = c.serve_new-ending.ensures.serves (honest (file_state c.serve_new-ending.result.1).is_clean refl)
