@@ -4,15 +4,16 @@
 #![tactic(auto)]
 
 mod files;
+mod host_listener;
 mod object;
 mod reason;
 
 use crate::files::{Opened, let_go, open_kept, open_new};
+use crate::host_listener::HostListener;
 use crate::object::Object;
 use crate::reason::{OpeningFailure, Reason};
 use goo_cli::{Opening, read_task};
 use goo_cli_ending::{Ending, Failure};
-use goo_cli_files::{LocalListener, SystemSocket};
 use goo_cli_jobs::{Job, Work, copy_of, init_in_files, job_of, work_in_files, work_in_memory};
 use goo_cli_registry::renewal_line::RenewalLine;
 use goo_cli_texts::ProgressLine;
@@ -91,7 +92,7 @@ fn perform_job<W: Write + Drop>(
         Job::InFile(path, work) => work_at(rt, *path, Unknown, work, writer),
         Job::InMemory(opening, work) => {
             let opening = copy_of(opening);
-            let mut listener = LocalListener::new(rt, SystemSocket::new(rt));
+            let mut listener = HostListener::new(rt);
             let mut reader = rt.reader();
             let ending = work_in_memory(
                 rt.alloc(),
@@ -141,7 +142,7 @@ fn work_at<S: Start, W: Write + Drop>(
         Ok(opened) => {
             let Opened { files, seed, log } = opened;
             let mut line = RenewalLine::new(path, rt.stderr());
-            let mut listener = LocalListener::new(rt, SystemSocket::new(rt));
+            let mut listener = HostListener::new(rt);
             let mut reader = rt.reader();
             let mut progress = ProgressLine::new(terminal(rt));
             let (ending, left) = work_in_files(
