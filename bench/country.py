@@ -6,7 +6,7 @@ Each month every device declares the month before; of each lot some certificates
 each quarter of the months it measures, over the file as it is then: the file, opening it, an audit, the statement of the account with the most runs, a copy, and requests to a server, one connection
 each (median and 99th of a hundred). Beside them stands what SQLite takes by itself: its check of the file, one query a table that adds up what the audit adds up, and the plain registry in Rust (plain.rs),
 which writes the same statement from one ordered query; and beside the opening that of the kit's library alone (`goo: damaged` on standard error is its end).
-At the end `deploy/recount` carries out all requests once more. It prints one table as Markdown. Ten years of 3,000 devices take about an hour and 3 GB below FOLDER (a temporary one by itself).
+At the end `goo-copies recount` carries out all requests once more. It prints one table as Markdown. Ten years of 3,000 devices take about an hour and 3 GB below FOLDER (a temporary one by itself).
 """
 import argparse
 import calendar
@@ -26,7 +26,8 @@ from pathlib import Path
 
 import measured
 from client import ask, free_port, read_answer, request
-from measured import HERE, PROGRAM, Run, goo, head, machine, ratio, room, row, rust, rust_run, say
+from measured import PROGRAM, Run, goo, head, machine, ratio, room, row, rust, rust_run, say
+from service_commands import command
 from workloads import ISSUING_BODY, certificate, device_number, line
 
 PRODUCERS, TRADERS = 40, 20
@@ -258,8 +259,8 @@ def main(chosen, folder):
         looks.append(look(file))
     print(f'{chosen.devices:,} devices, {chosen.years} years, {chosen.trades} transfers a lot, seed {chosen.seed}; {machine()}.\n')
     table(looks)
-    recounted = Run([HERE.parent / 'deploy/recount', file.path], to=folder / 'recount')
-    print(f'\n`deploy/recount` of the whole: {recounted.seconds:.0f} processor seconds, {recounted.memory:.0f} MB.')
+    recounted = Run([*command('goo-copies recount'), file.path], to=folder / 'recount')
+    print(f'\n`goo-copies recount` of the whole: {recounted.seconds:.0f} processor seconds, {recounted.memory:.0f} MB.')
 
 
 if __name__ == '__main__':

@@ -2,7 +2,7 @@
 
 usage: python3 bench/largest.py [tmpfs|disk ..]
 
-The bounds are those of deploy/bounds.py. Each request is sent alone to a registry in a file: a
+The bounds are those of service/goo_service/log/bounds.py. Each request is sent alone to a registry in a file: a
 transfer through LOTS lots, the largest bodies of a holder and of the issuing body, and
 tables of the most rows. A row of the table is the bytes sent, the status, and the seconds from the
 first byte sent to the last one received. All of it stays on 127.0.0.1.
@@ -24,8 +24,8 @@ from measured import room
 from measured import row
 from measured import usable
 
-sys.path.insert(0, str(HERE.parent / 'deploy'))
-import bounds
+sys.path.insert(0, str(HERE.parent / 'service'))
+from goo_service.log import bounds
 from client import CLOSE
 from client import answered
 from client import listening

@@ -1,5 +1,5 @@
 #!/usr/bin/python3
-"""Processor time of a write in the replica (deploy/replica), part by part: the smallest of many runs, which depends little on what else the machine does.
+"""Processor time of a write in the replica (service/goo_service/log/replica.py), part by part: the smallest of many runs, which depends little on what else the machine does.
 
 usage: python3 bench/replica.py [RUNS]
 
@@ -9,8 +9,6 @@ is the same for each. 32 writes come at once, as from 32 clients. Needs python3-
 import asyncio
 import collections
 import contextlib
-import importlib.machinery
-import importlib.util
 import secrets
 import socket
 import subprocess
@@ -21,15 +19,15 @@ from pathlib import Path
 
 HERE = Path(__file__).resolve().parent
 sys.dont_write_bytecode = True
-sys.path[:0] = [str(HERE.parent / 'deploy'), str(HERE.parent / 'tools/lib')]
-import entries
-import replica_apply
-import replica_door
-import replica_file
-import replica_place
+sys.path[:0] = [str(HERE.parent / 'service'), str(HERE.parent / 'tools/lib')]
+from goo_service.log import entries
+from goo_service.log import apply
+from goo_service.log import door
+from goo_service.log import file_store
+from goo_service.log import position
 from client import listening
 from measured import NEW, PROGRAM, row
-from replica_registry import Answer
+from goo_service.log.registry import Answer
 
 MANY, KEY = 32, b'the key of a trial'
 BODY = b'{"command":"open_account","key":"w-5a1d7c80","holder":"SUN"}'
@@ -56,18 +54,16 @@ class Sent:
 
 def replica_of(folder, port):
     """The two processes as objects, after the first entry of the log."""
-    loader = importlib.machinery.SourceFileLoader('replica', str(HERE.parent / 'deploy/replica'))
-    module = importlib.util.module_from_spec(importlib.util.spec_from_loader('replica', loader))
-    loader.exec_module(module)
+    from goo_service.log import replica as module
     (folder / 'key').write_bytes(KEY)
-    replica_place.begin(folder / 'place', 0, secrets.token_hex(32))
-    place = replica_place.Place(folder / 'place')
+    position.begin(folder / 'place', 0, secrets.token_hex(32))
+    place = position.Place(folder / 'place')
     first = entries.Entry(1, place.h, entries.now(), 'h1', '', '', 'full', 'ISSUER', 'VERSION', '', 'v', 'x', b'v')
-    replica_file.begin(folder / 'log', entries.written(first, KEY), 1)
+    file_store.begin(folder / 'log', entries.written(first, KEY), 1)
     place.close()
     words = module.words_of().parse_args(['--state', str(folder), '--store', str(folder / 'log'), '--key', str(folder / 'key'), '--registry', f'127.0.0.1:{port}', '--version', 'v'])
     near, far = socket.socketpair()
-    second = replica_apply.Applier(words, KEY, far)
+    second = apply.Applier(words, KEY, far)
     second.version = 'v'
     second.tell_place()
     replica = module.Replica(words, KEY, near)
@@ -93,7 +89,7 @@ async def taken_in(replica, parts, told):
     """In the first process: from the heads to the second process."""
     end = await replica.store.end()
     with parts.part('first process: heads, of which the first has not come before'):
-        calls = [replica_door.Call(*replica_door.head_of(HEAD % (len(BODY) + secrets.randbelow(1000000) * (n == 0)))[0], BODY) for n in range(MANY)]
+        calls = [door.Call(*door.head_of(HEAD % (len(BODY) + secrets.randbelow(1000000) * (n == 0)))[0], BODY) for n in range(MANY)]
     with parts.part('first process: taken in'):
         for call in calls:
             replica.serve(call, lambda answer, fields: told.append(answer))

@@ -1,5 +1,5 @@
 // A file of declarations, read before anything of it is sent: what is at fault, by row and field, with what was
-// expected. deploy/check-declarations does the same by the same rules; tools/trials/declarations holds the two, and the
+// expected. service/goo_service/people/declarations.py does the same by the same rules; tools/trials/declarations holds the two, and the
 // registry's own answers, against each other.
 
 import {language, t} from './language.js';
@@ -8,7 +8,7 @@ import {csv} from './texts.js';
 export const HEADER = 'key,device,first_day,last_day,gross_wh,aux_wh';
 const FIELDS = {key: 'key', device: 'gsrn', first_day: 'day', last_day: 'day', gross_wh: 'wh', aux_wh: 'wh'};
 const MOST_WH = 1e15;
-/** The rows of a table that the log in front of the registry takes: ROWS of deploy/bounds.py. */
+/** The rows of a table that the log in front of the registry takes: ROWS of service/goo_service/log/bounds.py. */
 const MOST_ROWS = 21_000;
 const SHORTENED = /^[+-]?[0-9]+([.,][0-9]+)?[eE][+-]?[0-9]+$/;
 const EXPECTED = {

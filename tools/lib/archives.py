@@ -1,4 +1,4 @@
-"""Makes an archive of requests and their outcomes, as deploy/replica writes one. For tests of what reads archives.
+"""Makes an archive of requests and their outcomes, as service/goo_service/log/replica.py writes one. For tests of what reads archives.
 
 usage: from archives import make_archive
        make_archive(goo, folder, [("office", "ISSUER", "/v1/requests", b'{"command":..}'), ..])
@@ -9,10 +9,10 @@ import secrets
 import subprocess
 import sys
 
-sys.path.insert(0, str(pathlib.Path(__file__).resolve().parents[2] / 'deploy'))
+sys.path.insert(0, str(pathlib.Path(__file__).resolve().parents[2] / 'service'))
 sys.dont_write_bytecode = True
-import entries
-import replica_roles
+from goo_service.log import entries
+from goo_service.log import roles
 from client import Answer, answered, listening, post
 
 KEY = b'the key of a trial'
@@ -31,13 +31,13 @@ def make_archive(goo, folder, requests, code=7, today='2025-03-01', begin='2025-
     port, registry, _ = listening(lambda port: subprocess.Popen([*words, str(port)], stdout=subprocess.PIPE))
     try:
         archive, origin = entries.Archive(folder), secrets.token_hex(32)
-        for count, (user, caller, route, body, *roles) in enumerate(requests):
-            role = roles[0] if roles else 'full'
+        for count, (user, caller, route, body, *given) in enumerate(requests):
+            role = given[0] if given else 'full'
             took = datetime.datetime.fromisoformat(begin) + datetime.timedelta(seconds=count * step)
             before, chain = (archive.last.hash, archive.last.outcome.chain) if archive.last else (origin, entries.NO_CHAIN)
             entry = entries.Entry(n=count + 1, prev=before, time=took.strftime('%Y-%m-%dT%H:%M:%S.%fZ'), host='h1', user=user, address='127.0.0.1' if user else '',
                                   role=role, caller=caller, method='POST', route=route, version='trial', id=secrets.token_hex(8), body=body)
-            status, _, answer = answered(port, post(body, caller, route)) if replica_roles.allows(role, 'POST', route, body) else FORBIDDEN
+            status, _, answer = answered(port, post(body, caller, route)) if roles.allows(role, 'POST', route, body) else FORBIDDEN
             archive.add(entries.written(entry, key), entry, entries.decided(route, status, answer, chain))
         archive.sync()
         if then:

@@ -13,6 +13,7 @@ import yaml
 from client import basic
 from intruders import post, raw
 from loopback import HOME, USERS, Place, Relay
+from service_commands import command
 
 REGISTRY, RECORDS = (yaml.safe_load((HOME / 'docs' / name).read_text(encoding='utf-8')) for name in ('openapi-outside.yaml', 'records.yaml'))
 SECONDS = 180
@@ -157,9 +158,9 @@ def routes(tally, place):
     served = place.ask('anna', 'GET', '/openapi.yaml')
     tally.check('the description of the registry is served, as YAML, to who signed in', (served[0], served[1]['Content-Type'], yaml.safe_load(served[2])) == (200, 'application/yaml', REGISTRY), served[:2])
     tally.check('and to nobody else, or to be changed', (place.ask(None, 'GET', '/openapi.yaml')[0], place.ask('anna', 'POST', '/openapi.yaml', 'x')[0]) == (401, 403), '')
-    sys.path.insert(0, str(HOME / 'deploy'))
-    import records_web
-    own = records_web.Service(HOME, HOME)
+    sys.path.insert(0, str(HOME / 'service'))
+    from goo_service.records import web
+    own = web.Service(HOME, HOME)
     count, wrong = len(place.records.heads), []
     for path in (*own.lists, *own.others, *(f'{name}/1' for name in own.ones)):
         got = [place.ask(user, 'GET', f'/records/v1/{path}')[0] for user in (None, 'meters')] + [place.ask('anna', 'GET', f'/records/v1/{path}', password='wrong')[0]]
@@ -197,9 +198,9 @@ def behind_the_log(tally):
         key.write_text('a key of the trial of a door')
         common = ['--state', state, '--key', key, '--version', 'trial']
         place.stop_registry()
-        subprocess.run([HOME / 'deploy/replica-log', 'found', *common, '--goo', place.goo, '--db', place.db], check=True, capture_output=True)
+        subprocess.run([*command('goo-replica-log'), 'found', *common, '--goo', place.goo, '--db', place.db], check=True, capture_output=True)
         place.start_registry()
-        log = subprocess.Popen([HOME / 'deploy/replica', *common, '--store', state / 'log', '--listen', door, '--registry', f'127.0.0.1:{relay.port}'], stderr=subprocess.DEVNULL)
+        log = subprocess.Popen([*command('goo-replica'), *common, '--store', state / 'log', '--listen', door, '--registry', f'127.0.0.1:{relay.port}'], stderr=subprocess.DEVNULL)
         try:
             requests = ('POST', '/v1/requests')
             first, second = (json.dumps({'command': 'open_holder', 'key': key, 'holder': key, 'name': 'Sun Power'}) for key in ('A1', 'A2'))
@@ -210,7 +211,7 @@ def behind_the_log(tally):
             relay.fate = lambda: 'cut'
             answer = until(lambda: place.ask('office', *requests, second), lambda answer: answer[1]['GOO-Entry'])
             check(tally, 'the registry fails at an entry', REGISTRY, *requests, 503, answer, 'text/plain')
-            aside = subprocess.run([HOME / 'deploy/replica-log', 'aside', '--door', door, *common, answer[1]['GOO-Entry']], capture_output=True, text=True)
+            aside = subprocess.run([*command('goo-replica-log'), 'aside', '--door', door, *common, answer[1]['GOO-Entry']], capture_output=True, text=True)
             answer = until(lambda: place.ask('office', *requests, second), lambda answer: answer[0] == 500)
             check(tally, f'it is set aside ({aside.stdout.strip()})', REGISTRY, *requests, 500, answer, 'text/plain')
         finally:

@@ -16,6 +16,7 @@ import time
 
 from client import ask, basic, comes, connected, is_open, read_most
 from loopback import CONNECTIONS, HOME, Place, wait_for
+from service_commands import command
 
 HEAD = 'GET /v1/audit HTTP/1.1\r\nHost: localhost\r\n'
 DEVICE = '500000000000000012'
@@ -39,8 +40,8 @@ def with_password(place, user, password):
 
 
 def callers(place, *words, path=os.environ['PATH']):
-    """A run of deploy/callers over the files of a place."""
-    return subprocess.run([HOME / 'deploy/callers', '--list', place.etc / 'callers', '--users', place.etc / 'users', '--map', place.etc / 'callers.map', *words],
+    """A run of service/goo_service/people/callers.py over the files of a place."""
+    return subprocess.run([*command('goo-callers'), '--list', place.etc / 'callers', '--users', place.etc / 'users', '--map', place.etc / 'callers.map', *words],
                           capture_output=True, text=True, env={**os.environ, 'PATH': path})
 
 
@@ -53,7 +54,7 @@ def spellings(tally, place):
         s, h, _ = place.ask(user, 'GET', '/v1/audit')
         tally.check(f'{user}, a password and no line: 401', (s, h['GOO-Signed-In']) == (401, None), (s, h['GOO-Signed-In']))
     out = callers(place)
-    tally.check('deploy/callers refuses names that differ only in capital letters', out.returncode == 1 and 'Office differs from office' in out.stderr, out)
+    tally.check('service/goo_service/people/callers.py refuses names that differ only in capital letters', out.returncode == 1 and 'Office differs from office' in out.stderr, out)
     for user in ('Office', 'OFFICE', 'ANNA'):
         subprocess.run(['htpasswd', '-D', place.etc / 'users', user], check=True, capture_output=True)
 
@@ -88,7 +89,7 @@ def workers(place):
 
 
 def lists(tally, place):
-    """What deploy/callers says of lists with a fault, and that the map stays as it was."""
+    """What service/goo_service/people/callers.py says of lists with a fault, and that the map stays as it was."""
     kept, listed, users = ((place.etc / name).read_text() for name in ('callers.map', 'callers', 'users'))
     for text, wanted in (('office ISSUER\noffice SUN\n', 'office stands in'), ('office ISSUER\nOffice SUN\n', 'Office differs from office'),
                          ('office\n', 'USER CALLER [ROLE]'), ('anna sun\n', "sun is no holder's code"), ('anna SUN boss\n', 'boss is no role'),
@@ -415,9 +416,9 @@ def writes(tally):
 
 
 def watches(tally, place):
-    """deploy/watch, over files of any size."""
+    """service/libexec/watch, over files of any size."""
     file = place.dir / 'large.db'
-    run = lambda memory: subprocess.run([HOME / 'deploy/watch'], env={**os.environ, 'GOO_DB': str(file), 'GOO_MEMORY': memory}, capture_output=True, text=True)
+    run = lambda memory: subprocess.run([HOME / 'service/libexec/watch'], env={**os.environ, 'GOO_DB': str(file), 'GOO_MEMORY': memory}, capture_output=True, text=True)
     with open(file, 'wb') as large:
         large.truncate(100 << 20)
     out = run(str(2 << 30))
@@ -473,10 +474,10 @@ def logs(tally):
 
 
 def rotates(tally, place):
-    """logrotate with deploy/logrotate/goo over the log of a place."""
+    """logrotate with service/etc/logrotate/goo over the log of a place."""
     if not shutil.which('logrotate'):
         return tally.skip('the rotation of the log', 'logrotate')
-    text = (HOME / 'deploy/logrotate/goo').read_text()
+    text = (HOME / 'service/etc/logrotate/goo').read_text()
     tally.check('a month a file, and 120 of them: ten years', re.search(r'(?m)^\s*monthly$', text) and re.search(r'(?m)^\s*rotate 120$', text), text)
     text = text.replace('/var/log/goo/', f'{place.dir}/').replace('www-data', 'root').replace('invoke-rc.d nginx rotate', f'kill -USR1 $(cat {place.dir}/nginx.pid)')
     conf = place.dir / 'logrotate.conf'
@@ -497,7 +498,7 @@ def rotates(tally, place):
 
 def killed(tally):
     """nginx that was killed leaves the desk's socket behind, and starts again by what its unit does before."""
-    command = re.search(r'(?m)^ExecStartPre=-(.*\.sock)$', (HOME / 'deploy/nginx/nginx.service.conf').read_text())[1]
+    command = re.search(r'(?m)^ExecStartPre=-(.*\.sock)$', (HOME / 'service/etc/nginx/nginx.service.conf').read_text())[1]
     with Place(rate=200) as place:
         for pid in (place.nginx.pid, *workers(place)):
             os.kill(pid, signal.SIGKILL)
@@ -571,7 +572,7 @@ def asks(user, groups, *words):
 
 def unit(name):
     """The settings of a unit, the last one of each name."""
-    return dict(line.split('=', 1) for line in (HOME / 'deploy/systemd' / name).read_text().splitlines() if '=' in line and not line.startswith('#'))
+    return dict(line.split('=', 1) for line in (HOME / 'service/etc/systemd' / name).read_text().splitlines() if '=' in line and not line.startswith('#'))
 
 
 def one_way(tally):
@@ -581,7 +582,7 @@ def one_way(tally):
     tally.check('the registry and the way to it are in one network of their own, whichever of them starts first',
                 tuple(of.get(line) for line in ('PrivateNetwork', 'JoinsNamespaceOf') for of in (registry, door)) == ('yes', 'yes', 'goo-door.service', 'goo.service')
                 and door['ExecStart'].endswith(f' 127.0.0.1:{port}'), (registry, door))
-    tally.check('nginx takes that way', f"unix:{socket_unit['ListenStream']};" in (HOME / 'deploy/nginx/goo.conf').read_text(), socket_unit)
+    tally.check('nginx takes that way', f"unix:{socket_unit['ListenStream']};" in (HOME / 'service/etc/nginx/goo.conf').read_text(), socket_unit)
     if os.geteuid() or subprocess.run(['unshare', '-n', 'true'], capture_output=True).returncode or not os.path.exists('/lib/systemd/systemd-socket-proxyd'):
         return tally.skip('the way to the registry at work', 'networks of their own (run as root), or systemd-socket-proxyd')
     group, port = grp.getgrnam('games').gr_gid, 18470
@@ -598,7 +599,7 @@ def one_way(tally):
             got = [asks(user, [], 'port', str(port)) for user in ('nobody', 'man', 'root')]
             tally.check("its port isn't there for anybody, root neither, whatever the packet filter", got == ['ConnectionRefusedError'] * 3, got)
             inside.stdin.close()
-    tally.check('users and groups: nginx and the agent are members, and nobody else', re.findall(r'(?m)^m (\S+) +goo-door$', (HOME / 'deploy/sysusers/goo.conf').read_text()) == ['goo-agent', 'www-data']
+    tally.check('users and groups: nginx and the agent are members, and nobody else', re.findall(r'(?m)^m (\S+) +goo-door$', (HOME / 'service/etc/sysusers/goo.conf').read_text()) == ['goo-agent', 'www-data']
                 and socket_unit['SocketGroup'] == 'goo-door' and socket_unit['SocketMode'] == '0660', socket_unit)
 
 
@@ -630,7 +631,7 @@ def crowds(tally):
     if os.geteuid() or not shutil.which('nft') or subprocess.run(['unshare', '-n', 'true'], capture_output=True).returncode:
         return tally.skip('the rule on connections', 'nftables, or namespaces (run as root)')
     run = lambda rule: subprocess.run(['unshare', '-n', sys.executable, '-c', CROWD, rule], capture_output=True, text=True, timeout=200)
-    out = run(str(HOME / 'deploy/nftables/front.nft'))
+    out = run(str(HOME / 'service/etc/nftables/front.nft'))
     tally.check('by the rule an address has 128 connections of 400, and another one still gets in', out.stdout.strip() == '[128, true]', out)
     out = run('')
     tally.check('without it 400 (so the trial above sees it)', out.stdout.strip() == '[400, true]', out)

@@ -1,10 +1,8 @@
-"""What the registry has to answer and to show, by deploy/rules.py and tools/lib/readings.py: for the tools that try the program by chance.
+"""What the registry has to answer and to show, by service/goo_service/common/rules.py and tools/lib/readings.py: for the tools that try the program by chance.
 
 Both were written from docs/REGISTRY.md and docs/FORMATS.md, apart from the program. A Model reads bytes, carries out what they ask for, and gives each answer
 byte for byte: outcomes of lines, reports of tables, responses over HTTP, statements, documents and the audit, and the rows that the tables have to have.
 """
-import importlib.machinery
-import importlib.util
 import re
 import sqlite3
 import sys
@@ -12,23 +10,15 @@ from contextlib import closing
 from pathlib import Path
 
 TOP = Path(__file__).resolve().parents[2]
-sys.path.insert(0, str(TOP / 'deploy'))
+sys.path.insert(0, str(TOP / 'service'))
 import mutations
 import readings
+from goo_service.copies import recount
 from client import response
 from readings import Fault, compact
-from rules import ISSUER, LOT, PLACES, Again, Registry, Wrong, reply
+from goo_service.common.rules import ISSUER, LOT, PLACES, Again, Registry, Wrong, reply
 
 
-def script(path):
-    """A script without an ending as a module."""
-    loader = importlib.machinery.SourceFileLoader(path.name, str(path))
-    module = importlib.util.module_from_spec(importlib.util.spec_from_loader(path.name, loader))
-    loader.exec_module(module)
-    return module
-
-
-recount = script(TOP / 'deploy/recount')
 CODES = {name: int(code) for code, name in re.findall(r'^\| (\d+) \| `(\w+)` \|', (TOP / 'docs/REGISTRY.md').read_text(encoding='utf-8'), re.M)}
 """The number of each refusal, by the table of docs/REGISTRY.md."""
 

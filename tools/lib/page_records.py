@@ -15,9 +15,10 @@ from client import CLOSE, answered, comes, free_port, post
 from loopback import HOME, Place, wait_for
 from readings import with_check_digit
 
-sys.path.append(str(HOME / 'deploy'))
-import entries
-import rules
+sys.path.append(str(HOME / 'service'))
+from goo_service.log import entries
+from goo_service.common import rules
+import service_commands
 
 PLANTS = [('T010000', 'F01040100', 'DE', 'electricity', 'Solarpark Nordfeld', 'none'), ('T020001', 'F01050100', 'AT', 'electricity', 'Windpark Parndorf', 'investment'),
           ('T030000', 'F01050200', 'DE', 'hydrogen', 'Electrolyser by the mill', 'production'), ('T050000', 'F01030400', 'FR', 'gas', 'Biogaz de la Loire', 'both')]
@@ -53,19 +54,19 @@ class WithRecords(Place):
         key.write_text('a key of the trial of a page')
         common = ['--name', 'a', '--state', state, '--key', key, '--version', 'trial']
         self.stop_registry()
-        subprocess.run([HOME / 'deploy/replica-log', 'found', *common, '--goo', self.goo, '--db', self.db], check=True, capture_output=True)
+        subprocess.run([*service_commands.command('goo-replica-log'), 'found', *common, '--goo', self.goo, '--db', self.db], check=True, capture_output=True)
         begun_before(next((state / 'log').glob('*.jsonl')), key.read_bytes())
         self.start_registry()
-        self.begin('replica', HOME / 'deploy/replica', *common, '--store', state / 'log', '--listen', f'127.0.0.1:{port}', '--registry', f'127.0.0.1:{self.goo_port}')
+        self.begin('replica', *service_commands.command('goo-replica'), *common, '--store', state / 'log', '--listen', f'127.0.0.1:{port}', '--registry', f'127.0.0.1:{self.goo_port}')
         wait_for(port)
         self.relay.target = self.log_port = port
 
     def begin_records(self):
         """The book that follows the log, and the service that shows it."""
         book, port = self.dir / 'records', free_port()
-        self.begin('follow', HOME / 'deploy/records', 'follow', '--begun', self.code, self.day, 1, '--archive', self.dir / 'replica/archive', '--into', book)
+        self.begin('follow', *service_commands.command('goo-records'), 'follow', '--begun', self.code, self.day, 1, '--archive', self.dir / 'replica/archive', '--into', book)
         wait_until(lambda: (book / 'current').exists(), 'the book')
-        self.begin('web', 'gunicorn', '--bind', f'127.0.0.1:{port}', '--workers', 1, '--threads', 4, '--chdir', HOME / 'deploy', 'records_web:application()', GOO_RECORDS=str(book))
+        self.begin('web', 'gunicorn', '--bind', f'127.0.0.1:{port}', '--workers', 1, '--threads', 4, '--chdir', HOME / 'service', 'goo_service.records.web:application()', GOO_RECORDS=str(book))
         wait_for(port)
         self.records.target = port
 

@@ -7,7 +7,7 @@ import tempfile
 from pathlib import Path
 
 from records_trial import ACCOUNTS, HOLDERS
-from rules import ISSUER
+from goo_service.common.rules import ISSUER
 
 Holder = collections.namedtuple('Holder', 'code accounts')
 VIEWERS = [Holder(code, {account for account, of in ACCOUNTS.items() if of == code}) for code in (*HOLDERS, 'STRANGER')]
@@ -147,7 +147,7 @@ def nobody(service):
 
 def found_by(service, acts):
     """Acts that a viewer finds by a value that they don't show him. Each filter is tried with values of acts that are not his."""
-    from records_answers import ACT_FILTERS, OWN_ALONE
+    from goo_service.records.answers import ACT_FILTERS, OWN_ALONE
     for name in {*ACT_FILTERS, *OWN_ALONE}:
         for value in list(dict.fromkeys(act[name] for act in acts if act[name] is not None))[:6]:
             for viewer in VIEWERS:

@@ -3,9 +3,9 @@ import re
 import shutil
 import sqlite3
 
-import entries
+from goo_service.log import entries
 from records_trial import Service, follow
-from rules import ISSUER
+from goo_service.common.rules import ISSUER
 
 USED = 400
 """Entries of the archive that these trials take."""

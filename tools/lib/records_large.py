@@ -11,11 +11,12 @@ import secrets
 import subprocess
 import time
 
-import entries
+from goo_service.log import entries
 from archives import KEY
 from client import answered, free_port, request
-from records_trial import ACCOUNTS, CODE, DEVICES, OWN, TODAY, TOP, Requests, Service
-from rules import ISSUER
+from records_trial import ACCOUNTS, CODE, DEVICES, OWN, TODAY, Requests, Service
+from goo_service.common.rules import ISSUER
+import service_commands
 
 ALTERNATE, TRADED = 1_000, 30_000
 """Certificates that change hands one by one: every second of a stretch, and those of two who trade by chance."""
@@ -129,7 +130,7 @@ def large(tally, goo, folder, count):
     acts = write_archive(folder / 'large', itertools.chain(both, traded(count - len(both))))
     print(f'an archive of {acts:,} acts is written; load {os.getloadavg()[0]:.1f}', flush=True)
     begun, into = time.monotonic(), folder / 'of-large'
-    status, seconds, most = measured([TOP / 'deploy/records', 'follow', '--begun', str(CODE), TODAY, '1', '--archive', folder / 'large', '--into', into, '--once'])
+    status, seconds, most = measured([*service_commands.command('goo-records'), 'follow', '--begun', str(CODE), TODAY, '1', '--archive', folder / 'large', '--into', into, '--once'])
     took, size = time.monotonic() - begun, (into / 'current').stat().st_size / 1e6 if status == 0 else 0
     tally.check(f'a book of {acts:,} acts is made: {seconds:.1f} s of the processor, {took:.1f} s by the clock, {most:,.0f} MB of memory, a file of {size:,.0f} MB', [status] if status else [])
     if status == 0:

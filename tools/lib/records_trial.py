@@ -7,10 +7,12 @@ import sys
 from pathlib import Path
 
 TOP = Path(__file__).resolve().parents[2]
-sys.path[:0] = [str(TOP / 'deploy')]
+sys.path[:0] = [str(TOP / 'service')]
 import tally
 from mutations import gsrn, lot, part
-from rules import ISSUER, Registry, Wrong, months_after
+from goo_service.common.rules import ISSUER, Registry, Wrong, months_after
+from service_commands import command
+from service_commands import SERVICE
 
 HOLDERS = ('SUN', 'VOLT', 'WIND', 'RHEIN', 'NORD')
 ACCOUNTS = {number: HOLDERS[(number - 1) % len(HOLDERS)] for number in range(1, 11)}
@@ -144,9 +146,9 @@ class Service:
     """The service over a book, asked without a socket."""
 
     def __init__(self, folder):
-        import records_web
-        self.own = records_web.Service(folder, folder / 'state.json')
-        self.client = records_web.application(folder, folder / 'state.json').test_client()
+        from goo_service.records import web
+        self.own = web.Service(folder, folder / 'state.json')
+        self.client = web.application(folder, folder / 'state.json').test_client()
 
     def ask(self, caller, path, /, **parameters):
         answer = self.client.get(path, query_string=parameters or None, headers={'GOO-Caller': caller} if caller else {})
@@ -169,6 +171,6 @@ class Service:
             more = {'before' if name == 'acts' else 'offset': answer['next']}
 
 
-def follow(archive, into, *more, begun=(str(CODE), TODAY, '1'), program=TOP / 'deploy/records'):
+def follow(archive, into, *more, begun=(str(CODE), TODAY, '1'), service=SERVICE):
     """A book that is made of an archive."""
-    return subprocess.run([program, 'follow', '--begun', *begun, '--archive', archive, '--into', into, *more], capture_output=True, text=True, timeout=1800)
+    return subprocess.run([*command('goo-records', service), 'follow', '--begun', *begun, '--archive', archive, '--into', into, *more], capture_output=True, text=True, timeout=1800)

@@ -8,7 +8,8 @@ import ssl
 import subprocess
 import threading
 
-from replica_trial import CODE, GOO, HOME, TODAY, ask, check, day, enter, gsrn, must, run, until
+from replica_trial import CODE, GOO, TODAY, ask, check, day, enter, gsrn, must, run, until
+import service_commands
 
 PEER = 9
 EACH = 10                           # certificates of an export
@@ -97,7 +98,7 @@ class Bodies:
 
     def run(self, inside, code, folder, *words):
         folder.mkdir(exist_ok=True)
-        return run(*inside(HOME / "deploy/exchange", "--config", self.folder / f"{code}.conf", "--folder", folder, *words), timeout=300)
+        return run(*inside(*service_commands.command("goo-exchange"), "--config", self.folder / f"{code}.conf", "--folder", folder, *words), timeout=300)
 
 
 def exchange(cluster, work):

@@ -1,6 +1,6 @@
 """Single trials of one host with its log, for tools/trials/replicas."""
 import archives
-import replica_place
+from goo_service.log import position
 import collections
 import contextlib
 import io
@@ -17,9 +17,9 @@ import struct
 import subprocess
 import threading
 import time
-from replica_trial import (Bare, GOO, REPLICA, VERSION, Weak, ask, carried_out, check, day, dump, group_of, gsrn, must, run, tally, until)
+from replica_trial import (Bare, GOO, REPLICA, REPLICA_LOG, VERSION, Weak, ask, carried_out, check, day, dump, group_of, gsrn, must, run, tally, until)
 import client
-import entries
+from goo_service.log import entries
 
 
 def restart(host, *names):
@@ -377,14 +377,14 @@ def version(cluster, work):
     restart(host, "goo", "replica")
     health = host.says("version")
     host.hold("replica")
-    moved = run(*host.inside(REPLICA.parent / "replica-log", "version", "next", *host.common()))
+    moved = run(*host.inside(REPLICA_LOG, "version", "next", *host.common()))
     host.release("replica")
     done = work.request("ISSUER", 0, "open_account", "next-version", holder="C1")
     last = list(entries.read_archive(host.state / "archive", done["entry"] - 1))[0].entry
     check(f"a program of another version: {health.get('why')!r}; {moved.stdout.strip()}; the next entry is of version {last.version}", "version" in health.get("why", "") and last.version == "next" and done["status"] == 200, (health, moved, done))
     (host.folder / "version").write_text(VERSION)
     host.hold("replica")
-    run(*host.inside(REPLICA.parent / "replica-log", "version", VERSION, *host.common()))
+    run(*host.inside(REPLICA_LOG, "version", VERSION, *host.common()))
     host.release("replica")
     cluster.even(60)
 
@@ -582,7 +582,7 @@ def by_ssh(cluster, work):
 
 def shipped_there(cluster, work, folder, inside):
     host, key = cluster.hosts[0], entries.read_key(cluster.folder / "mac.key")
-    ship = lambda: run(*inside, REPLICA.parent / "replica-log", "ship", f"127.0.0.1:{folder}/there", "--once", *host.common(),
+    ship = lambda: run(*inside, REPLICA_LOG, "ship", f"127.0.0.1:{folder}/there", "--once", *host.common(),
                        env={**os.environ, "RSYNC_RSH": f"ssh -F none -i {folder}/user -o UserKnownHostsFile={folder}/known -o StrictHostKeyChecking=yes -o BatchMode=yes"})
     some(work, 10, "ssh")
     entry, down = cluster.even(30), ship()
@@ -610,7 +610,7 @@ def follower(cluster, work):
     for file in copy.glob("registry.db*"):
         shutil.copy(file, folder)
     (folder / "state").mkdir()
-    run(REPLICA.parent / "replica-log", "place", copy, "--state", folder / "state", "--key", cluster.folder / "mac.key")
+    run(REPLICA_LOG, "place", copy, "--state", folder / "state", "--key", cluster.folder / "mac.key")
     host.op("ship", target, "--once")
     port, inner = client.free_port(), client.free_port()
     registry = subprocess.Popen([GOO, "serve", "--db", folder / "registry.db", "--port", str(inner), "--count", "1000000"], stdout=subprocess.DEVNULL)
@@ -659,8 +659,8 @@ def slots(cluster, work):
     for _ in range(300):
         if os.path.exists(path):
             os.unlink(path)
-        replica_place.begin(path, 5, "a" * 64)
-        place, synced, n = replica_place.Place(path), 5, 5
+        position.begin(path, 5, "a" * 64)
+        place, synced, n = position.Place(path), 5, 5
         for _ in range(chance.randint(0, 6)):
             n += 1
             place.record(n, "b" * 64, "c" * 64)
@@ -669,11 +669,11 @@ def slots(cluster, work):
                 synced = n
         os.pwrite(place.file, bytes(chance.randrange(256) for _ in range(chance.randint(1, 511))), 4096 * place.slot)     # the slot in hand is lost
         place.close()
-        now = replica_place.Place(path)
+        now = position.Place(path)
         bad += [(now.n, synced)] if now.n != synced else []
         now.record(now.n + 1, "d" * 64, "-")
         now.close()
-        last = replica_place.Place(path)
+        last = position.Place(path)
         bad += [last.n] if last.n != synced + 1 else []
         last.close()
     check("300 files of a place, the slot in hand lost at a power failure: the last synced place stands", not bad, bad[:3])

@@ -11,9 +11,9 @@ import subprocess
 import sys
 import threading
 import time
-from replica_trial import (CODE, GATE, GOO, HOME, REPLICA, VERSION, Weak, ask, check, day, gsrn, must, run, tally, until)
+from replica_trial import (CODE, GATE, GOO, HOME, REPLICA, REPLICA_LOG, SERVICE, VERSION, Weak, ask, check, day, gsrn, must, run, tally, until)
 import client
-import entries
+from goo_service.log import entries
 
 
 def some(work, count, home, tag):
@@ -237,20 +237,20 @@ def etcdctl(host):
 
 
 def unanswered():
-    """`replica-log` whose first call of etcd is carried out, and its answer lost."""
+    """`goo-replica-log` whose first call of etcd is carried out, and its answer lost."""
     return "python3", "-c", f"""
 import runpy, sys
-sys.path.insert(0, {str(REPLICA.parent)!r})
-import replica_etcd
-call = replica_etcd.Etcd.call
+sys.path.insert(0, {str(SERVICE)!r})
+from goo_service.log import etcd_store
+call = etcd_store.Etcd.call
 
 async def lost(self, path, words):
-    replica_etcd.Etcd.call = call
+    etcd_store.Etcd.call = call
     await call(self, path, words)
-    raise replica_etcd.NoAnswer("the answer is lost")
+    raise etcd_store.NoAnswer("the answer is lost")
 
-replica_etcd.Etcd.call = lost
-runpy.run_path({str(REPLICA.parent / "replica-log")!r}, run_name="__main__")
+etcd_store.Etcd.call = lost
+runpy.run_module("goo_service.log.command", run_name="__main__")
 """
 
 
@@ -344,7 +344,7 @@ def upgraded(cluster, work):
     """Another version of the program, host after host: an entry moves the version, and each host waits until it has that program."""
     one, two, three = cluster.hosts
     cluster.even(60)
-    moved = run(*one.inside(REPLICA.parent / "replica-log", "version", "next", *one.common()))
+    moved = run(*one.inside(REPLICA_LOG, "version", "next", *one.common()))
     began = time.monotonic()
     said = [host.says("version").get("why", "") for host in cluster.hosts]
     (two.folder / "version").write_text("next")
@@ -356,7 +356,7 @@ def upgraded(cluster, work):
         (host.folder / "version").write_text("next")
         again(host, "goo")
     check(f"{moved.stdout.strip()}: {said[0]!r}; the first host with it answers {done['reply'].get('outcome')} after {took:.1f} s, the others then follow", all("version" in why for why in said) and done["status"] == 200 and "version" in behind["why"] and cluster.even(60), (said, done, behind))
-    run(*one.inside(REPLICA.parent / "replica-log", "version", VERSION, *one.common()))
+    run(*one.inside(REPLICA_LOG, "version", VERSION, *one.common()))
     for host in cluster.hosts:
         (host.folder / "version").write_text(VERSION)
         again(host, "goo")
@@ -412,9 +412,9 @@ def replaced(cluster, work):
 
 
 def agents(cluster, work):
-    """The date moved by deploy/advance on all three hosts at once: one moves it, the others are told that it was moved."""
+    """The date moved by service/libexec/advance on all three hosts at once: one moves it, the others are told that it was moved."""
     cluster.even(60)
-    said = [subprocess.Popen(host.inside(HOME / "deploy/advance", "2026-03-02"), stdout=subprocess.PIPE, stderr=subprocess.STDOUT, text=True,
+    said = [subprocess.Popen(host.inside(HOME / "service/libexec/advance", "2026-03-02"), stdout=subprocess.PIPE, stderr=subprocess.STDOUT, text=True,
                              env={**os.environ, "GOO_URL": f"http://127.0.0.1:{host.port}", "GOO_DAY": "2026-03-02"}) for host in cluster.hosts]
     told = [one.communicate(timeout=120)[0] for one in said]
     outcomes = sorted(re.search("accepted|repeated|already|$", text)[0] for text in told)
@@ -523,12 +523,12 @@ def torn_tables(cluster, work):
 
 
 def doors(cluster, work):
-    """haproxy in front of three hosts, by deploy/haproxy, with nginx on each, by deploy/nginx/health.conf: a host whose replica takes nothing gets nothing."""
+    """haproxy in front of three hosts, by service/etc/haproxy, with nginx on each, by service/etc/nginx/health.conf: a host whose replica takes nothing gets nothing."""
     if lacking := next((name for name in ("nginx", "haproxy") if not shutil.which(name)), None):
         return tally.skip("the balancer in front of three hosts", lacking)
     started, folder = [], cluster.folder / "doors"
     folder.mkdir()
-    balancer = (HOME / "deploy/haproxy/haproxy.cfg").read_text()
+    balancer = (HOME / "service/etc/haproxy/haproxy.cfg").read_text()
     for host in cluster.hosts:
         started.append(front_door(host, folder / host.name))
         balancer = balancer.replace(f"192.0.2.{host.i}:", f"{host.address}:")
@@ -562,7 +562,7 @@ def doors(cluster, work):
 def front_door(host, folder):
     """nginx on a host, as a stand-in for its front door, and with /healthz for the balancer."""
     folder.mkdir()
-    health = (HOME / "deploy/nginx/health.conf").read_text().replace("192.0.2.10", GATE).replace("unix:/run/goo/door.sock", f"127.0.0.1:{host.port}")
+    health = (HOME / "service/etc/nginx/health.conf").read_text().replace("192.0.2.10", GATE).replace("unix:/run/goo/door.sock", f"127.0.0.1:{host.port}")
     front = f"server {{ listen {host.address}:8443 proxy_protocol; location / {{ proxy_pass http://127.0.0.1:{host.port}; proxy_set_header Host goo; proxy_set_header Connection close; proxy_next_upstream off; }} }}"
     temp = "".join(f"{kind}_temp_path {folder}/{kind};\n" for kind in ("client_body", "proxy", "fastcgi", "uwsgi", "scgi"))
     (folder / "nginx.conf").write_text(f"user root;\ndaemon off;\nworker_processes 1;\npid {folder}/pid;\nerror_log {folder}/error.log;\nevents {{ }}\nhttp {{\n{temp}{health}\n{front}\n}}\n")

@@ -5,17 +5,20 @@ For tools/trials/replicas. On three hosts each is a network namespace, which ask
 import base64, bisect, collections, concurrent.futures, contextlib, ctypes, itertools, json, os, pathlib, random, re, shutil, signal, socket, ssl, subprocess, sys, threading, time
 
 HOME = pathlib.Path(__file__).resolve().parents[2]
-REPLICA = pathlib.Path(os.environ.get("REPLICA", HOME / "deploy/replica"))
-sys.path.insert(0, str(REPLICA.parent))
+SERVICE = pathlib.Path(os.environ.get("GOO_SERVICE", HOME / "service"))
+sys.path.insert(0, str(SERVICE))
 sys.dont_write_bytecode = True
 import client
-import entries
+from service_commands import command
+from goo_service.log import entries
 import loopback
-import replica_roles
+from goo_service.log import roles
 from mutations import gsrn
 from tally import Tally
 
 GOO = loopback.program()
+(REPLICA,), (REPLICA_LOG,) = command("goo-replica", SERVICE), command("goo-replica-log", SERVICE)
+DIGEST = " ".join(command("goo-copies digest", SERVICE))
 LIBC = ctypes.CDLL(None, use_errno=True)
 TODAY, CODE, VERSION = "2026-03-01", 7, "trial"
 GATE = "10.99.0.9"                  # what stands between the hosts and everybody else
@@ -87,7 +90,7 @@ class Host:
             return self.etcd_command()
         if name == "rows":
             socket = self.folder / "rows.sock"
-            return ["sh", "-c", f"rm -f {socket}; exec systemd-socket-activate --accept --inetd --listen {socket} {REPLICA.parent}/rows-digest --db {self.disk}/goo/registry.db --into {self.folder}"]
+            return ["sh", "-c", f"rm -f {socket}; exec systemd-socket-activate --accept --inetd --listen {socket} {DIGEST} --db {self.disk}/goo/registry.db --into {self.folder}"]
         if name == "goo":
             return [GOO, "serve", "--db", self.disk / "goo/registry.db", "--port", str(self.inner), "--count", "1000000000"]
         return [REPLICA, *self.common(), "--listen", f"127.0.0.1:{self.port}", "--registry", f"127.0.0.1:{self.goo_port}", "--digest", "100", "--rows", self.folder / "rows.sock",
@@ -146,7 +149,7 @@ class Host:
         self.held.discard(name)
         self.again_at[name] = 0
 
-    def op(self, *words, program=(REPLICA.parent / "replica-log",)):
+    def op(self, *words, program=(REPLICA_LOG,)):
         """replica-log, as the operator of this host says it; or another program with its words."""
         return run(*self.inside(*program, *words, *self.common(), "--door", f"127.0.0.1:{self.port}", "--goo", GOO, "--copies", self.cluster.folder / "copies",
                                 "--db", self.disk / "goo/registry.db", *(["--version", VERSION] if words[0] in ("found", "first-copy") else [])), env={**os.environ, "TMPDIR": str(self.cluster.folder), "GOO_EXCHANGE": "/nowhere", "GOO_CONFIGURATION": "/nowhere"})
@@ -559,7 +562,7 @@ class Faults:
             host.send(one, signal.SIGKILL, self.some_of(name))
 
     def power(self, *_):
-        """Everything ends at once. What a disk has then that was not synced is tried in tools/service/test_power.py."""
+        """Everything ends at once. What a disk has then that was not synced is tried in service/tests/test_power.py."""
         for host in self.cluster.hosts:
             self.kill(host, "host")
 
@@ -705,7 +708,7 @@ class Bare:
 
 def carried_out(entry):
     """Whether the registry is asked for it."""
-    return entry.method == "POST" and replica_roles.allows(entry.role, entry.method, entry.route, entry.body)
+    return entry.method == "POST" and roles.allows(entry.role, entry.method, entry.route, entry.body)
 
 
 class Replayed:
@@ -852,8 +855,8 @@ def all_holds(cluster, work):
         if declared - less != (issued - withdrawn) * 10**6 + carry or carry >= 10**6:
             check("audit balances", False, line)
     check(f"audits of {len(dumps[0][1].splitlines())} devices balance", True)
-    told = [run(HOME / "deploy/recount", cluster.folder / f"copy-{host.name}", cwd="/tmp", env={**os.environ, "PYTHONDONTWRITEBYTECODE": "1"}) for host in cluster.hosts]
-    check("deploy/recount of each: nothing is wrong", all(t.returncode == 0 for t in told), told[0])
+    told = [run(*command("goo-copies recount"), cluster.folder / f"copy-{host.name}", cwd="/tmp", env={**os.environ, "PYTHONDONTWRITEBYTECODE": "1"}) for host in cluster.hosts]
+    check("recount of each: nothing is wrong", all(t.returncode == 0 for t in told), told[0])
 
 
 def archives_hold(cluster, work):

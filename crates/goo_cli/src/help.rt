@@ -39,7 +39,7 @@ pub const DECLARE: &str = "Imports the declarations of standard input, a CSV fil
 pub const DECLARE_EXAMPLE: &str =
     "Its first line is key,device,first_day,last_day,gross_wh,aux_wh; the report says of each row what became of it.
 At most 16777216 bytes are read.
-Run deploy/check-declarations FILE first: it reads the whole file and sends nothing. The periods of a device are accepted in
+Run service/goo_service/people/declarations.py FILE first: it reads the whole file and sends nothing. The periods of a device are accepted in
 order of time alone, so where one row is refused and a later one of its device stands, the refused period is lost for good.
 
 Example:

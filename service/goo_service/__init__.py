@@ -1,0 +1,1 @@
+"""What stands around the registry of guarantees of origin."""

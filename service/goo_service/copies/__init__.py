@@ -1,0 +1,1 @@
+"""Copies of the registry: made each night, recounted, and gone back to."""

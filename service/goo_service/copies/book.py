@@ -1,0 +1,69 @@
+"""Where the book of acts begins, when a log is begun over a registry that has requests already (docs/RECORDS.md).
+
+The book is made from the log. A log that is begun later does not tell what came before it, so the book begins with the copy that
+was made when the log was begun. The user of the records reads a copy of its own, in its folder; root writes the file in /etc/goo
+that tells how the book begins.
+"""
+import os
+import pwd
+import shutil
+import sqlite3
+from contextlib import ExitStack, closing
+from pathlib import Path
+from typing import BinaryIO
+
+from goo_service.copies.contents import open_regular
+from goo_service.common.owner import done_as_owner, remove
+
+USER = 'goo-records'
+BOOK = Path(os.environ.get('GOO_BOOK') or '/var/lib/goo-records')
+FIRST = 'first'
+FILES = ('registry.db', 'place.json')
+"""The files of a copy by which the book is made. Its configuration is not for the user of the records."""
+
+
+def place_beginning(copy: Path, n: int, configuration: Path) -> str:
+    """The book begins with a copy of entry n, where records are kept on this host. What was done, in words; nothing where nothing was."""
+    told = configuration / 'records.conf'
+    if not configuration.is_dir() or told.exists() and not has_requests(copy / 'registry.db'):
+        return ''
+    if not BOOK.is_dir():
+        try:
+            user = pwd.getpwnam(USER)
+        except KeyError:
+            return ''
+        BOOK.mkdir(mode=0o750)
+        os.chown(BOOK, user.pw_uid, user.pw_gid)
+    with ExitStack() as stack:
+        files = {name: stack.enter_context(open_regular(copy / name)) for name in FILES}
+        done_as_owner(BOOK, lambda: write_first(files))
+    write_whole(told, '# How the book of acts begins (RECORDS.md)\n'
+                      f'GOO_RECORDS_BEGIN=--copy {BOOK / FIRST} --after {n}\n')
+    return f'{told}: the book of acts begins with this copy, after entry {n}'
+
+
+def has_requests(database: Path) -> bool:
+    asked = 'SELECT EXISTS (SELECT 1 FROM receipt)'
+    with closing(sqlite3.connect(f'file:{database}?mode=ro&immutable=1', uri=True)) as connection:
+        return bool(connection.execute(asked).fetchone()[0])
+
+
+def write_first(files: dict[str, BinaryIO]) -> None:
+    """As the user of the records: the copy takes the place of the one before, whole."""
+    first, part = BOOK / FIRST, BOOK / f'{FIRST}.part'
+    for path in (part, first):
+        remove(path)
+    part.mkdir(mode=0o750)
+    for name, file in files.items():
+        with open(part / name, 'xb') as new:
+            shutil.copyfileobj(file, new, 1 << 20)
+            new.flush()
+            os.fsync(new.fileno())
+    part.rename(first)
+
+
+def write_whole(path: Path, text: str) -> None:
+    part = path.with_name(f'.{path.name}.part')
+    part.write_text(text)
+    part.chmod(0o644)
+    part.replace(path)

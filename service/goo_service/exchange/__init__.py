@@ -1,0 +1,1 @@
+"""The exchange of notices with other registries."""

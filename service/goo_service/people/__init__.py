@@ -1,0 +1,1 @@
+"""People and what they send: who signs in as whom, tables of declarations."""

@@ -1,0 +1,186 @@
+"""Reads a file of declarations before it is sent, and tells each field at fault, with the reason and what was expected.
+
+usage: goo-check-declarations FILE
+
+A period that a device has declared shuts out every earlier one for good. So a file with one bad row loses that row's production as soon as a
+later row of the same device is accepted. Nothing is sent from here. The page reads a file by the same rules (web/reading.js), which are those of
+docs/FORMATS.md and docs/REGISTRY.md that a file alone can show: the form of each field, the check digit of a GSRN, a period within one month,
+auxiliaries of no more than the gross production, a key of its own for each row, and the order of a device's periods. A table has 21,000 rows at
+most: the log in front of the registry takes no longer one.
+
+Rows are numbered as in the registry's report: row 1 is the first below the header. Exit status 0 where nothing is at fault, 1 where something
+is, 2 for a usage error, and 3 where the file can't be read.
+"""
+import calendar
+import csv
+import io
+import pathlib
+import re
+import sys
+
+from goo_service.log.bounds import ROWS as MOST_ROWS
+
+HEADER = 'key,device,first_day,last_day,gross_wh,aux_wh'
+FIELDS = {'key': 'key', 'device': 'gsrn', 'first_day': 'day', 'last_day': 'day', 'gross_wh': 'wh', 'aux_wh': 'wh'}
+"""The name of each field, and what kind of text it is."""
+MOST_BYTES = 16_777_216
+MOST_WH = 10 ** 15
+BLANK = '[ \t\xa0]'
+SHORTENED = '[+-]?[0-9]+([.,][0-9]+)?[eE][+-]?[0-9]+'
+EXPECTED = {
+    'key': 'Expected 1 to 40 characters: letters A to Z, digits, and - _ . : are allowed.',
+    'gsrn': 'Expected the 18 digits of a GSRN.',
+    'day': 'Expected a day from 1900 to 2099 in the form 2025-01-31.',
+    'wh': 'Expected a whole number of Wh from 0 to 1,000,000,000,000,000, digits alone.',
+}
+SLIPS = {
+    'key': [],
+    'gsrn': [(SHORTENED, 'A spreadsheet has shortened it and its last digits are lost.'),
+             ('[0-9]{18}', 'Its check digit does not fit the other digits: look for a typing mistake.'),
+             ('[0-9]+', 'It has too few or too many digits.')],
+    'day': [('[0-9]{4}-[0-9]{2}-[0-9]{2}', 'There is no such day.'),
+            ('[0-9]{1,4}[./-][0-9]{1,2}[./-][0-9]{1,4}', 'A spreadsheet has changed the form of the day.'),
+            ('[0-9]{5}([.,][0-9]+)?', 'A spreadsheet has turned the day into a number.')],
+    'wh': [(SHORTENED, 'A spreadsheet has shortened it and its last digits may be lost.'),
+           ('-.*', 'It is negative.'),
+           ("[0-9]{1,3}([., '\xa0\u202f’][0-9]{3})+", 'It has separators between its digits.'),
+           ('[0-9]+[.,][0-9]+', 'It has decimals.'),
+           ('[0-9]+', 'It is too large.')],
+}
+"""What often goes wrong with each kind of text: the first pattern that fits gives the reason."""
+
+
+def is_gsrn(text):
+    """Eighteen digits, the last one GS1's check digit: weights 3, 1, 3, .. over the first 17."""
+    if not re.fullmatch('[0-9]{18}', text):
+        return False
+    return (sum(int(digit) * (1 if place % 2 else 3) for place, digit in enumerate(text[:17])) + int(text[17])) % 10 == 0
+
+
+def is_day(text):
+    """A day of the calendar from 1900-01-01 to 2099-12-31."""
+    if not re.fullmatch('(19|20)[0-9]{2}-[0-9]{2}-[0-9]{2}', text):
+        return False
+    year, month, day = map(int, text.split('-'))
+    return 1 <= month <= 12 and 1 <= day <= calendar.monthrange(year, month)[1]
+
+
+def is_wh(text):
+    """1 to 16 digits, at most 10^15."""
+    return re.fullmatch('[0-9]{1,16}', text) is not None and int(text) <= MOST_WH
+
+
+def is_key(text):
+    """1 to 40 characters that a key may have."""
+    return re.fullmatch('[A-Za-z0-9_.:-]{1,40}', text) is not None
+
+
+FITS = {'key': is_key, 'gsrn': is_gsrn, 'day': is_day, 'wh': is_wh}
+
+
+def field_fault(kind, text):
+    """Why a field is not of its kind, and what was expected; '' where nothing is wrong."""
+    if FITS[kind](text):
+        return ''
+    slips = [('', 'It is empty.'), (f'{BLANK}.*|.*{BLANK}', 'There is a space before or after it.'), *SLIPS[kind], ('(?s).*', '')]
+    return f'{next(reason for pattern, reason in slips if re.fullmatch(pattern, text))} {EXPECTED[kind]}'.strip()
+
+
+def period_faults(first, last, gross, aux):
+    """What is wrong between the fields of one row."""
+    if last < first:
+        yield 'last_day', 'The period ends before it begins. Expected a day from first_day to the end of its month.'
+    elif last[:7] != first[:7]:
+        yield 'last_day', 'The period runs into another month. Expected a day of the month of first_day: one row for each month.'
+    if int(aux) > int(gross):
+        yield 'aux_wh', 'The auxiliaries exceed the gross production. Expected at most gross_wh.'
+
+
+def row_faults(fields):
+    """The fields of a row that are at fault, each with its reason; `row` where it is the row as a whole."""
+    if re.fullmatch(f'{BLANK}*', ''.join(fields)):
+        return [('row', 'It is empty. Delete it.')]
+    if any(re.search('[\r\n]', field) for field in fields):
+        return [('row', 'It goes on in another line. Look for a quotation mark that is not closed.')]
+    if len(fields) == 1 and fields[0].count(';') == len(FIELDS) - 1:
+        return [('row', 'Its fields are separated by semicolons. Expected commas.')]
+    if len(fields) != len(FIELDS):
+        return [('row', f'Expected {len(FIELDS)} fields, and it has {len(fields)}.')]
+    faults = [(name, reason) for (name, kind), text in zip(FIELDS.items(), fields) if (reason := field_fault(kind, text))]
+    return faults or list(period_faults(*fields[2:]))
+
+
+def order_faults(fields, keys, ends):
+    """What is wrong between a row and those before it: their keys, and where each device's last period ended."""
+    key, device, first, _, _, _ = fields
+    if key in keys:
+        yield 'key', f'Row {keys[key]} has the same key. Expected a key of its own for each row.'
+    if device in ends and first <= ends[device][0]:
+        yield 'first_day', f'Row {ends[device][1]} of this device ends on {ends[device][0]}. Expected a later day.'
+
+
+def header_fault(header):
+    """What is wrong with the first record; '' where it is the header."""
+    text = ','.join(header)
+    if text == HEADER and len(header) == len(FIELDS):
+        return ''
+    reasons = [('(?s).*[\0\ufffd].*', 'The file is not UTF-8 text.'), ('(?s).*;.*', 'The fields are separated by semicolons.'),
+               ('(?s).*\t.*', 'The fields are separated by tabs.'), ('', 'The file is empty.'), ('(?s).*', '')]
+    return f'{next(reason for pattern, reason in reasons if re.fullmatch(pattern, text))} Expected a CSV in UTF-8 that begins with {HEADER}'.strip()
+
+
+def records(text):
+    """The records of a CSV. Blank lines are passed over."""
+    csv.field_size_limit(sys.maxsize)
+    return [record for record in csv.reader(io.StringIO(text.removeprefix('\ufeff'), newline='')) if record]
+
+
+def read(text):
+    """The rows of a file, and what is at fault: row (0 is the header), field and reason of each."""
+    header, *rows = records(text) or [[]]
+    if reason := header_fault(header):
+        return rows, [(0, 'header', reason)]
+    if len(rows) > MOST_ROWS:
+        return rows, [(0, 'file', f'It has {len(rows):,} rows. Expected at most {MOST_ROWS:,}: split it, each part with the header.')]
+    faults, keys, ends = [], {}, {}
+    for number, fields in enumerate(rows, 1):
+        found = row_faults(fields) or list(order_faults(fields, keys, ends))
+        faults += [(number, *fault) for fault in found]
+        if not found:
+            keys[fields[0]], ends[fields[1]] = number, (fields[3], number)
+    return rows, faults if rows else [(0, 'file', 'There is no row below the header. Expected one at least.')]
+
+
+def ended(line, status):
+    print(line, file=sys.stderr)
+    return status
+
+
+def found_at(rows, row, field):
+    """The place of a fault as a person reads it, with what stands there."""
+    if row == 0:
+        return field
+    value = rows[row - 1][list(FIELDS).index(field)] if field in FIELDS else ''
+    return f'row {row}, {field}{f" {ascii(value[:40])}" if value else ""}'
+
+
+def main():
+    words = sys.argv[1:]
+    if words in (['-h'], ['--help']) or len(words) != 1 or words[0].startswith('-'):
+        return ended(__doc__, 0 if words in (['-h'], ['--help']) else 2)
+    try:
+        data = pathlib.Path(words[0]).read_bytes()
+    except OSError as error:
+        return ended(f'check-declarations: {words[0]}: {error.strerror}', 3)
+    if len(data) > MOST_BYTES:
+        return ended(f'check-declarations: {words[0]}: {len(data):,} bytes. Expected at most {MOST_BYTES:,}: split it, each part with the header', 1)
+    rows, faults = read(data.decode('utf-8', 'replace'))
+    for row, field, reason in faults:
+        print(f'{found_at(rows, row, field)}: {reason}')
+    at_fault = len({row for row, *_ in faults})
+    print(f'{len(rows)} row{"" if len(rows) == 1 else "s"}, {at_fault or "none"} at fault{": do not send the file" if faults else ""}')
+    return 1 if faults else 0
+
+
+if __name__ == '__main__':
+    sys.exit(main())

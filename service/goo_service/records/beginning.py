@@ -1,0 +1,105 @@
+"""Where the book of acts begins, and whether that fits the log and the registry.
+
+A log that was begun over a registry with records has no entry for what came before it. The book
+then begins with the copy that was made when the log was begun. A book that began as if the registry
+had been empty would be a wrong one, so it is not made: what is to be done is told instead. The unit
+starts anew each minute and reads records.conf, so that the book is made once the beginning fits.
+"""
+import argparse
+import http.client
+import json
+from dataclasses import dataclass
+from pathlib import Path
+
+from goo_service.log import entries
+from goo_service.records import door
+from goo_service.records.book import Mismatch
+
+CONF = '/etc/goo/records.conf'
+AGAIN = (f'Where the registry had records before its log, {CONF} has to name the copy that was '
+         'made when the log was begun: GOO_RECORDS_BEGIN=--copy COPY (RECORDS.md, "Running it")')
+"""What to do where a beginning may be the wrong one."""
+PATIENCE = 10
+"""Seconds in which the registry answers, or is asked later."""
+
+
+@dataclass(frozen=True)
+class Place:
+    """The entry after which the book begins, and its hash where a copy tells it."""
+
+    entry: int
+    hash: str | None
+    named: str
+
+
+def place_of(given: argparse.Namespace) -> Place:
+    """The place that was asked for."""
+    if not given.copy:
+        if given.after:
+            raise ValueError('--after belongs to --copy: a registry that begins is at entry 0')
+        return Place(0, None, '--begun')
+    told = told_by(Path(given.copy))
+    if given.after is not None and told and told.entry != given.after:
+        raise ValueError(f'{given.copy} was made at entry {told.entry}, and --after says '
+                         f'{given.after}: leave --after out')
+    return told or Place(given.after or 0, None, given.copy)
+
+
+def told_by(copy: Path) -> Place | None:
+    """The place that a copy tells. One that was made without a log tells none."""
+    path = (copy if copy.is_dir() else copy.parent) / 'place.json'
+    try:
+        said = json.loads(path.read_text(encoding='utf-8'))
+        return Place(int(said['n']), str(said['hash']), str(copy))
+    except FileNotFoundError:
+        return None
+    except PermissionError as fault:
+        raise ValueError(f'{copy}: the user of the records may not read it: give him a copy of it, '
+                         'as goo-setup does in /var/lib/goo-records/first') from fault
+    except (ValueError, KeyError, TypeError) as fault:
+        raise ValueError(f'{path}: no place in it: {fault}') from fault
+
+
+def first_entry(archive: str, place: Place) -> None:
+    """Raises Mismatch unless the entries of an archive go on from a place."""
+    try:
+        record = next(entries.read_archive(archive, after=place.entry), None)
+    except entries.Broken:
+        return                      # whoever reads on tells it with its place
+    begins = next((number for path in entries.months(archive)
+                   if (number := entries.first_number(path)) is not None), None)
+    wanted = place.entry + 1
+    if record is None and begins is not None and last_number(archive) < place.entry:
+        raise Mismatch(f'{archive} ends at entry {last_number(archive)}, and the book would begin '
+                       f'after entry {place.entry}, by {place.named}')
+    if record and record.entry.n != wanted:
+        raise Mismatch(f'{archive} begins with entry {record.entry.n}, and the book would begin '
+                       f'with entry {wanted}, by {place.named}')
+    if record and place.hash and record.entry.prev != place.hash:
+        raise Mismatch(f'{archive}: entry {wanted} does not follow the entry at which '
+                       f'{place.named} was made: the copy is of another log')
+
+
+def last_number(archive: str) -> int:
+    """The number of the last whole entry of an archive, 0 where there is none."""
+    for path in reversed(entries.months(archive)):
+        last = entries.last_of(path, entries.read_record)[0]
+        if last:
+            return int(last.entry.n)
+    return 0
+
+
+def lacks_account(socket: str, number: int, entry: int) -> bool | None:
+    """Raises Mismatch where the registry has an account that the book, at this entry, has not.
+
+    None where the registry does not tell, or has gone on since.
+    """
+    try:
+        told = door.asked(socket, f'/v1/accounts/{number}/statement', PATIENCE)
+    except (OSError, ValueError, http.client.HTTPException):
+        return None
+    if told.status == 404:
+        return False
+    if told.status != 200 or told.entry != entry:
+        return None
+    raise Mismatch(f'entry {entry}: account {number} is in the registry and in no entry of the log')

@@ -1,0 +1,57 @@
+"""The parameters that each route of the records takes. Any other one is an error that names it.
+
+A parameter that was passed over because of a slip would answer another question than the one that
+was asked, and a program would act on the answer.
+"""
+from typing import Protocol
+
+from goo_service.records.answers import ACT_FILTERS
+from goo_service.records.answers import BadQuestion
+from goo_service.records.answers import FILTERS
+from goo_service.records.answers import LISTS
+from goo_service.records.answers import LOT_FILTERS
+
+PAGE = ('limit', 'offset', 'format')
+HELD = ('account', 'q', 'tradable', *LOT_FILTERS)
+SUMMED = ('tech', 'source', 'carrier', 'country', 'device')
+PARAMETERS: dict[str, tuple[str, ...]] = {
+    'acts': (*ACT_FILTERS, 'account', 'key', 'entry', 'from', 'to', 'q', 'before', 'limit',
+             'format'),
+    'holdings': ('by', 'place', 'sort', *HELD, *PAGE),
+    'deadlines': ('days', *HELD, *PAGE),
+    'choice': ('count', 'order', 'act', *HELD, 'format'),
+    'holders': PAGE,
+    'withdrawals': PAGE,
+    'statistics': ('by', 'from', 'to', *SUMMED, *PAGE),
+    **{name: ('account', *FILTERS.get(name, {}), 'sort', *PAGE) for name in LISTS},
+    'acts/NUMBER': (),
+    'certificates/NUMBER': (),
+    'cancellations/NUMBER': (),
+    'documents': ('numbers',),
+    'status': (),
+    'openapi.yaml': (),
+    'verify': ('number', 'code'),
+}
+FORMATS = ('csv', 'json')
+
+
+class Given(Protocol):
+    """What Flask gives of a query: each name with its values in their order."""
+
+    def lists(self) -> list[tuple[str, list[str]]]:
+        """The names and their values."""
+
+
+def parameters_of(route: str, given: Given) -> dict[str, str]:
+    """The parameters that were given, once each, or the error that names one that cannot be."""
+    taken, found = PARAMETERS[route], {}
+    for name, values in given.lists():
+        if name not in taken:
+            known = f'it takes {", ".join(taken)}' if taken else 'it takes none'
+            raise BadQuestion(f'{route} has no parameter {name!r}: {known}')
+        if len(values) > 1:
+            raise BadQuestion(f'{name} is given {len(values)} times')
+        found[name] = values[0]
+    if found.get('format', '') not in ('', *FORMATS):
+        raise BadQuestion(f'format is {found["format"]!r}, and not one of {", ".join(FORMATS)}')
+    return found

@@ -1,0 +1,36 @@
+"""Prints which entry the registry of this host has applied last, which entry is the last of its log, and
+the version that applies the next one. `goo-setup` runs this as the user who owns the log, while the
+replica does not run.
+"""
+import pathlib
+import sys
+
+from goo_service.log import entries
+from goo_service.log import file_store
+from goo_service.log.position import Place
+
+
+def end_of(log: pathlib.Path) -> file_store.Point | None:
+    """The end of a log of files; None where there is none, as on each of three hosts."""
+    for path in sorted(log.glob('*.jsonl'), reverse=True):
+        line, _ = entries.last_of(path, lambda line: line if entries.read_entry(line) else None)
+        if line:
+            return file_store.after(entries.read_entry(line), line)
+    return None
+
+
+def main() -> int:
+    state = pathlib.Path(sys.argv[1])
+    try:
+        place = Place(state / 'place', None)
+        place.close()
+        end = end_of(state / 'log')
+        print(place.n, end.n if end else place.n, end.version if end else '')
+    except (OSError, ValueError, entries.Broken) as fault:
+        print(fault, file=sys.stderr)
+        return 1
+    return 0
+
+
+if __name__ == '__main__':
+    sys.exit(main())

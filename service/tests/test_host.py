@@ -1,0 +1,691 @@
+"""The host around the registry: units, set-up, upgrade, exchange, certificates, and what root touches."""
+import datetime
+import functools
+import itertools
+import json
+import os
+import signal
+import subprocess
+import time
+from collections.abc import Iterator
+from importlib import import_module
+from pathlib import Path
+from types import ModuleType
+from types import SimpleNamespace
+
+import pytest
+
+from goo_service.exchange import visit
+from goo_service.setup import common
+from goo_service.setup import report
+from goo_service.exchange.outbox import Outbox
+from host_stage import FOLDERS
+from host_stage import USERS
+from host_stage import Canary
+from host_stage import Done
+from host_stage import Stage
+from host_stage import script_of
+from service_commands import command
+
+TOP = Path(__file__).resolve().parents[2]
+SERVICE = TOP / 'service'
+DEVICE = '500000000000000029'
+OCTOBER = {'first_day': '2024-10-01', 'last_day': '2024-10-31'}
+
+
+# ------------------------------------------------------------------ the exchange
+
+class Registry:
+    """Our registry, which takes each notice."""
+
+    def __init__(self) -> None:
+        self.taken: list[str] = []
+
+    def notice(self, number: int) -> None:
+        return None
+
+    def take(self, notice: SimpleNamespace) -> str:
+        self.taken.append(notice.text)
+        return 'accepted'
+
+
+class Sender:
+    """Registry 9, which brings notices of one device of 1 MW to registry 7."""
+
+    def __init__(self, folder: Path) -> None:
+        self.folder, self.registry, self.next = folder, Registry(), itertools.count(1)
+
+    def visit(self) -> visit.Visit:
+        outbox = Outbox(self.folder / 'outbox', 7, None)
+        ours = SimpleNamespace(folder=self.folder, registry=self.registry, outbox=outbox, code=7)
+        of_this = visit.Visit(ours, SimpleNamespace(code=9))
+        of_this.open()
+        return of_this
+
+    def brings(self, ours: visit.Visit, *ranges: tuple[int, int], **lot: object) -> str:
+        """What becomes of a notice of these serials of registry 9."""
+        position = next(self.next)
+        of = {'capacity_w': 1_000_000, 'device': DEVICE, 'origin': 9, **OCTOBER, **lot}
+        parts = [{'first': f'{of["origin"]:02}{first:012}', 'last': f'{of["origin"]:02}{last:012}',
+                  'lot': of} for first, last in ranges]
+        text = json.dumps({'account': 1, 'addressee': 7, 'number': position, 'parts': parts,
+                           'sender': 9, 'version': 1})
+        ours.inbox.keep(position, text, 'signature')
+        ours.deliver(position, text)
+        of_it = ours.inbox.waiting.get(str(position))
+        return f'{of_it["became"]}: {of_it["why"]}' if of_it else 'accepted'
+
+
+@pytest.fixture
+def sender(tmp_path: Path) -> Sender:
+    return Sender(tmp_path)
+
+
+# October at 1 MW: 31 days of 24 hours and one hour more make 745 MWh; a carry makes it 745 certificates
+@pytest.mark.parametrize(('count', 'is_held'), [(745, False), (746, True)])
+def test_a_notice_above_capacity_times_hours_is_held(sender: Sender, count: int, is_held: bool) -> None:
+    became = sender.brings(sender.visit(), (1, count))
+    assert became.startswith('held: ') == is_held, became
+    assert len(sender.registry.taken) == (not is_held)
+    assert not is_held or (DEVICE in became and '745' in became and '746' in became)
+
+
+def test_energy_counts_what_came_before_in_other_runs(sender: Sender) -> None:
+    assert sender.brings(sender.visit(), (1, 400)) == 'accepted'
+    visit = sender.visit()
+    assert sender.brings(visit, (401, 745)) == 'accepted'
+    assert sender.brings(visit, (746, 746)).startswith('held: ')
+    assert sender.brings(sender.visit(), (1, 745)) == 'accepted', 'the same certificates once more'
+
+
+def test_energy_counts_all_parts_and_each_capacity(sender: Sender) -> None:
+    assert sender.brings(sender.visit(), (1, 400), (500, 900)).startswith('held: ')
+    visit = sender.visit()
+    assert sender.brings(visit, (1, 700)) == 'accepted'
+    assert sender.brings(visit, (701, 1400), capacity_w=999_999).startswith('held: ')
+
+
+def test_other_months_and_our_own_certificates_are_apart(sender: Sender) -> None:
+    visit = sender.visit()
+    assert sender.brings(visit, (1, 745)) == 'accepted'
+    assert sender.brings(visit, (800, 1500), first_day='2024-09-01', last_day='2024-09-30') == 'accepted'
+    assert sender.brings(visit, (1, 2000), origin=7) == 'accepted', 'our own lot, which we judged'
+
+
+def test_a_released_notice_is_imported(sender: Sender) -> None:
+    visit = sender.visit()
+    assert sender.brings(visit, (1, 2000)).startswith('held: ')
+    visit.deliver(1, visit.inbox.taken(1), True)
+    assert len(sender.registry.taken) == 1 and not visit.inbox.waiting
+
+
+@pytest.mark.parametrize('lot', [{'capacity_w': '5'}, {'device': 'x\n'}, {'first_day': 5},
+                                 {'last_day': '2024-99-99'}, {'capacity_w': -1}, {'capacity_w': 10 ** 30}])
+def test_values_of_another_form_are_left_to_the_registry(sender: Sender, lot: dict[str, object]) -> None:
+    assert sender.brings(sender.visit(), (1, 9000), **lot) == 'accepted'
+
+
+def closed_early(*words: object, **more: object) -> subprocess.CompletedProcess[str]:
+    """A program whose output nobody reads."""
+    process = subprocess.Popen([str(word) for word in words], stdout=subprocess.PIPE,
+                               stderr=subprocess.PIPE, text=True, **more)
+    process.stdout.close()
+    said = process.stderr.read()
+    return subprocess.CompletedProcess(words, process.wait(30), '', said)
+
+
+def test_the_state_of_the_exchange_may_be_read_in_part(tmp_path: Path) -> None:
+    (tmp_path / 'state.json').write_text('{}\n' * 100_000)
+    done = closed_early(*command('goo-exchange', SERVICE), '--folder', tmp_path, '--state')
+    assert 'Traceback' not in done.stderr and 'Broken' not in done.stderr, done.stderr
+    assert done.returncode == 0
+
+
+# ------------------------------------------------------------------ the stage
+
+@pytest.fixture(scope='module')
+def whole_stage() -> Iterator[Stage]:
+    if os.geteuid():
+        pytest.skip('mounts and users of its own, for which it has to run as root')
+    with Stage(TOP) as stage:
+        yield stage
+
+
+PREPARED = '''
+rm -rf /var/lib/goo* /etc/goo /run/goo /run/goo-upgrade /run/stage/active /run/stage/restarts* /var/backups/goo
+rm -rf /etc/systemd/system/goo* /run/stage/refuses* /run/stage/enabled* /usr/lib/goo/goo.before /usr/lib/goo/goo.refused
+mkdir -p /run/goo /run/stage/active /var/backups/goo /etc/goo /etc/nginx
+cp -a /usr/share/goo/etc/nginx/goo.conf /etc/nginx/
+for pair in goo:goo goo-exchange:goo-agent goo-replica:goo-replica goo-records:goo-records goo-etcd:goo-etcd; do
+    install -d -m 750 -o ${pair#*:} -g ${pair#*:} /var/lib/${pair%:*}
+done
+openssl rand -hex 32 > /etc/goo/replica.key
+chown goo-replica /etc/goo/replica.key
+chmod 400 /etc/goo/replica.key
+: > /run/stage/openings
+: > /run/stage/calls
+'''
+RUNS = ('goo-door.socket', 'goo.service', 'goo-replica.service', 'goo-registry.socket', 'goo-backup.timer')
+
+
+@pytest.fixture
+def stage(whole_stage: Stage) -> Stage:
+    """A host with the users and the empty folders of the package."""
+    whole_stage.shell(PREPARED)
+    whole_stage.program('1.0.0')
+    return whole_stage
+
+
+# ------------------------------------------------------------------ a new version
+
+@pytest.fixture
+def registry(stage: Stage) -> Iterator[Stage]:
+    """A registry of version 1.0.0 that runs behind its log."""
+    stage.shell('setpriv --reuid=goo --regid=goo --clear-groups goo init --db /var/lib/goo/registry.db\n'
+                'goo-replica-log found\n'
+                'mkdir -p /etc/systemd/system/goo-door.socket.d\n'
+                'touch /etc/systemd/system/goo-door.socket.d/replica.conf\n'
+                f'systemctl start {" ".join(RUNS)}\n: > /run/stage/openings')
+    door = stage.begin('/usr/bin/python3', '/usr/lib/stage/door.py')
+    for _ in range(100):
+        if is_well(stage):
+            break
+        time.sleep(0.05)
+    assert is_well(stage)
+    yield stage
+    stage.shell('kill "$(cat /run/stage/door.pid)"')
+    door.wait(10)
+
+
+def is_well(stage: Stage) -> bool:
+    """Whether the registry takes requests."""
+    words = ('curl', '-s', '--max-time', '5', '-o', '/dev/null', '-w', '%{http_code}', '--unix-socket',
+             '/run/goo/door.sock', 'http://localhost/healthz')
+    return stage.run(*words).out == '200'
+
+
+def unpack(stage: Stage, tables: int = 2, more: str = '') -> None:
+    """What dpkg does with a new package up to its postinst."""
+    for name in ('preinst', 'postinst'):
+        stage.put(f'/run/stage/{name}', script_of(TOP / 'tools/package', name), 0o755)
+    done = stage.run('/run/stage/preinst', 'upgrade', '1.0.0')
+    assert done.status == 0, done
+    stage.program('1.1.0', tables, more)
+
+
+def configure(stage: Stage) -> Done:
+    return stage.run('/run/stage/postinst', 'configure', '1.0.0')
+
+
+def version(stage: Stage) -> str:
+    return stage.run('goo', '--version').out.strip()
+
+
+def test_a_new_version_opens_the_file_once(registry: Stage) -> None:
+    unpack(registry)
+    done = configure(registry)
+    assert done.status == 0, done
+    assert registry.lines('/run/stage/openings') == ['serve']
+    assert set(RUNS) <= registry.active() and is_well(registry)
+    assert version(registry) == 'goo 1.1.0' and 'the version is goo 1.1.0' in done.out
+    assert not registry.run('ls', '/usr/lib/goo/goo.before', '/run/goo-upgrade').out
+    assert {'goo-units.timer', 'goo-doctor.timer'} <= registry.active(), 'what is new is started'
+
+
+def test_a_stop_puts_the_log_into_the_database(registry: Stage) -> None:
+    registry.shell('systemctl stop goo.service')
+    assert registry.lines('/run/stage/openings') == ['run']
+
+
+@pytest.mark.parametrize(('result', 'code'), [('signal', 'killed'), ('exit-code', 'exited'),
+                                              ('success', 'exited'), ('oom-kill', 'killed')])
+def test_a_registry_that_is_started_again_is_opened_once(registry: Stage, result: str, code: str) -> None:
+    registry.shell(f'SERVICE_RESULT={result} EXIT_CODE={code} '
+                   '/usr/lib/goo/close-database /var/lib/goo/registry.db')
+    assert registry.lines('/run/stage/openings') == []
+
+
+@pytest.mark.parametrize('fault', ['no key of the log', 'tables of another version',
+                                   'a program that does not run', 'a program that crashes'])
+def test_a_version_that_does_not_take_over_leaves_the_one_of_before(registry: Stage, fault: str) -> None:
+    if fault == 'no key of the log':
+        registry.shell('mv /etc/goo/replica.key /etc/goo/kept')
+    unpack(registry, 3 if fault == 'tables of another version' else 2,
+           'exit 3;' if fault == 'a program that does not run' else
+           ': CRASHES;' if fault == 'a program that crashes' else '')
+    if fault == 'a program that crashes':
+        registry.put('/run/stage/restarts-goo.service', '5\n')
+    done = configure(registry)
+    assert done.status != 0, done
+    assert set(RUNS) <= registry.active(), done
+    assert version(registry) == 'goo 1.0.0' and is_well(registry), done
+    assert 'dpkg --configure goo' in done.err, done
+    registry.shell('[ ! -e /etc/goo/kept ] || mv /etc/goo/kept /etc/goo/replica.key')
+    registry.shell('rm -f /run/stage/restarts-goo.service')
+    if registry.run('ls', '/usr/lib/goo/goo.refused').out:
+        registry.shell('sed -i "s/exit 3;//; s/: CRASHES;//; s/VALUES (3,/VALUES (2,/; s/= 3 /= 2 /" '
+                       '/usr/lib/goo/goo.refused')
+    done = configure(registry)
+    assert done.status == 0 and version(registry) == 'goo 1.1.0' and is_well(registry), done
+
+
+@pytest.mark.parametrize('number', [signal.SIGKILL, signal.SIGTERM, signal.SIGHUP])
+def test_a_set_up_that_is_ended_half_way_leaves_what_ran(registry: Stage, number: int) -> None:
+    unpack(registry, more='[ -e /run/stage/goes-on ] || { touch /tmp/waits; sleep 30; };')
+    registry.shell('rm -f /tmp/waits')
+    begun = registry.begin('/usr/sbin/goo-setup', 'upgraded')
+    for _ in range(200):
+        if registry.run('ls', '/tmp/waits').out:
+            break
+        time.sleep(0.05)
+    assert 'goo.service' not in registry.active(), 'the registry is stopped by now'
+    pid = registry.shell('pgrep -f "goo-setup upgraded"').out.split()[0]
+    registry.shell(f'kill -{int(number)} {pid}; touch /run/stage/goes-on')
+    begun.wait(60)
+    assert begun.returncode != 0
+    if number != signal.SIGKILL:
+        assert set(RUNS) <= registry.active() and is_well(registry), begun.stderr.read()
+    done = configure(registry)
+    registry.shell('rm /run/stage/goes-on')
+    assert done.status == 0 and set(RUNS) <= registry.active() and is_well(registry), done
+    assert version(registry) == 'goo 1.1.0'
+
+
+def test_what_around_the_registry_refuses_the_new_version_is_told(registry: Stage) -> None:
+    registry.shell('systemctl start nginx.service')
+    registry.put('/etc/nginx/conf.d/broken.conf', 'no such word;\n')
+    registry.put('/etc/goo/callers', 'office ISSUER\n')
+    unpack(registry)
+    done = configure(registry)
+    registry.shell('rm /etc/nginx/conf.d/broken.conf')
+    assert done.status != 0 and 'nginx -t' in done.err, done
+    assert version(registry) == 'goo 1.1.0' and is_well(registry), 'the registry itself went over'
+    assert registry.run('stat', '-c', '%a', '/etc/goo/callers').out == '640\n'
+    done = configure(registry)
+    assert done.status == 0, done
+
+
+def test_a_registry_that_was_stopped_stays_so(registry: Stage) -> None:
+    registry.shell(f'systemctl stop {" ".join(RUNS)}; : > /run/stage/openings')
+    unpack(registry)
+    done = configure(registry)
+    assert done.status == 0 and registry.active() == set(), (done, registry.active())
+    assert registry.lines('/run/stage/openings') == []
+
+
+def test_a_host_of_three_waits_for_its_renewal(registry: Stage) -> None:
+    registry.put('/etc/goo/replica.env', 'REPLICA_WORDS=--name h1 --code 7 --etcd https://192.0.2.1:2379\n')
+    unpack(registry)
+    done = configure(registry)
+    assert done.status == 0 and 'goo-setup renew' in done.out, done
+    assert registry.lines('/run/stage/openings') == []
+
+
+# ------------------------------------------------------------------ the set-up
+
+@pytest.mark.parametrize(('words', 'lacks'), [('', "the host's name"),
+                                              ('--name a.example --self-signed', 'the first user')])
+def test_a_set_up_that_nobody_answers_says_what_it_lacks(stage: Stage, words: str, lacks: str) -> None:
+    done = stage.run('sh', '-c', f'exec goo-setup {words} < /dev/null')
+    assert done.status == 1 and 'Traceback' not in done.err, done
+    assert f'goo-setup: {lacks}' in done.err and 'was not given' in done.err, done
+
+
+def test_a_host_that_joins_has_what_the_first_one_packed(stage: Stage) -> None:
+    owners = {'/var/lib/goo': 'goo', '/var/lib/goo-replica': 'goo-replica', '/var/lib/goo-records/first': 'goo-records'}
+    for folder, user in owners.items():
+        stage.shell(f'setpriv --reuid={user} --regid={user} --clear-groups sh -ec "mkdir -p {folder}/archive {folder}/log;'
+                    f' echo {user} > {folder}/archive/kept; echo x > {folder}/log/left; chmod 600 {folder}/archive/kept"')
+    done = stage.python(PACKED)
+    assert done.status == 0, done
+    for folder, user in owners.items():
+        assert stage.text(f'{folder}/archive/kept') == f'{user}\n'
+        assert stage.run('stat', '-c', '%U %G %a', f'{folder}/archive/kept').out == f'{user} {user} 600\n'
+        assert stage.run('ls', f'{folder}/log').status != 0, 'the log of the first host stays there'
+
+
+PACKED = '''
+import pathlib
+from goo_service.setup import common
+from goo_service.setup import cluster
+root = pathlib.Path('/run/stage/packed')
+root.mkdir()
+for name, (folder, user) in cluster.THEIR_FOLDERS.items():
+    cluster.pack_folder(folder, user, root / name)
+common.run('tar', '--create', '--file', root / 'all', '--directory', root, *cluster.THEIR_FOLDERS)
+common.run('sh', '-ec', 'rm -rf /var/lib/goo/* /var/lib/goo-replica/* /var/lib/goo-records/*')
+for name, (folder, user) in cluster.THEIR_FOLDERS.items():
+    cluster.unpack_folder(root / 'all', name, folder, user)
+'''
+"""Packs the folders of the services on a first host, and unpacks them as on one that joins."""
+
+
+# ------------------------------------------------------------------ what root must not touch
+
+NAMES = {
+    '/var/lib/goo': 'registry.db registry.db-wal registry.db-journal registry.db-shm reserve restoring '
+                    'restoring-configuration before-2025',
+    '/var/lib/goo-exchange': 'state.json generation.json restored.json outbox inbox refused lock',
+    '/var/lib/goo-replica': 'place log archive aside shipped shipped.part place.part .ssh',
+    '/var/lib/goo-records': 'first first.part exchange.json exchange.json.part current .lock code.key',
+    '/var/lib/goo-etcd': 'data',
+}
+"""What stands in the folder of a service, or could."""
+PLANTS = {
+    'links to a file': 'ln -s /run/canary/file "$1"',
+    'links to a folder': 'ln -s /run/canary/folder "$1"',
+    'pipes': 'mkfifo "$1"',
+    'folders with links': 'mkdir "$1"; ln -s /run/canary/file "$1/2025-01.jsonl"; '
+                          'ln -s /run/canary/folder "$1/00000000000000000001.jsonl"; '
+                          'ln -s /run/canary/file "$1/place.json"; ln -s /run/canary/folder "$1/folder"',
+}
+AROUND_THE_LOG = (
+    'replica-log verify', 'replica-log verify --from {COPY}', 'replica-log compress', 'replica-log found',
+    'replica-log version x', 'replica-log first-copy', 'replica-log place {COPY}', 'replica-log copy',
+    'env GOO_RECOUNT= backup', 'goo-setup upgraded', 'restore {COPY} --without-list --although-broken',
+    'restore --open --unsettled', 'log-setup')
+"""What root carries out by the programs of the log and of the copies; the later ones change what runs."""
+ROOTS_FOLDERS = ('/run', '/run/goo', '/run/goo-front', '/var/lib', '/var/log/goo', '/var/backups/goo',
+                 '/etc/goo', '/etc/goo/peers', '/etc/goo/tls', '/usr/lib/goo', '/run/goo-units')
+COPY = '/var/backups/goo/2025-01-01T000000Z'
+WORK = {
+    'goo-setup doctor': 'goo-setup doctor',
+    'goo-setup status': 'goo-setup status',
+    'watch': '/usr/lib/goo/watch',
+    'what a host that joins is given': r'''python3 - <<'END'
+import contextlib, pathlib, shutil, subprocess
+from goo_service.setup import common
+from goo_service.setup import cluster
+common.SECONDS = cluster.SECONDS = 1
+shutil.rmtree('/run/stage/root', ignore_errors=True)
+root = pathlib.Path('/run/stage/root'); root.mkdir()
+def attempt(work, *words):
+    with contextlib.suppress(common.Refused, subprocess.TimeoutExpired): work(*words)
+attempt(cluster.numbers)
+attempt(common.code_of_registry)
+common.holds_registry()
+for name, (folder, user) in cluster.THEIR_FOLDERS.items():
+    attempt(cluster.pack_folder, folder, user, root / name)
+    (root / 'x').write_text('x')
+    common.run('tar', '--create', '--file', root / f'{name}.all', '--directory', root, name, 'x')
+    attempt(cluster.unpack_folder, root / f'{name}.all', name, folder, user)
+END''',
+    'the copy for the book': rf'''python3 - <<'END'
+import pathlib
+from goo_service.common import owner
+from goo_service.copies import book
+from goo_service.setup import command
+command.place_folders()
+etc = pathlib.Path('/etc/goo')
+(etc / 'records.conf').unlink(missing_ok=True)
+try:
+    print(book.place_beginning(pathlib.Path('{COPY}'), 1, etc))
+except (owner.NotDone, OSError) as fault:
+    print(fault)
+END''',
+}
+"""What root carries out by programs of this package, but for those that change what runs."""
+
+
+def privileged_lines() -> dict[str, str]:
+    """The lines of units that systemd carries out as root, outside of what shuts a unit in."""
+    found = {}
+    for path in (*SERVICE.glob('etc/systemd/*.service'), *SERVICE.glob('etc/drop-ins/*'), *SERVICE.glob('etc/etcd/*.service')):
+        for line in path.read_text(encoding='utf-8').splitlines():
+            name, _, words = line.partition('=')
+            if name.startswith('Exec') and '+' in words[:3]:
+                found[f'{path.name} {name}'] = words.lstrip('-+!@:')
+    return found
+
+
+@pytest.fixture
+def planted(stage: Stage) -> Iterator[Stage]:
+    """A host with a configuration and a copy, on which nothing runs."""
+    stage.shell('mkdir -p /etc/goo/tls /etc/goo/peers; echo "server_name a.example;" > /etc/goo/host.conf\n'
+                'openssl req -x509 -newkey ec -pkeyopt ec_paramgen_curve:P-256 -nodes -days 90 '
+                '-subj /CN=a.example -keyout /etc/goo/tls/key.pem -out /etc/goo/tls/cert.pem 2> /dev/null\n'
+                'chmod 600 /etc/goo/tls/key.pem; : > /etc/goo/callers; : > /etc/goo/users\n'
+                f'mkdir {COPY}; sqlite3 {COPY}/registry.db "CREATE TABLE receipt (x); INSERT INTO receipt VALUES (1)"\n'
+                f'echo "{{\\"n\\": 3}}" > {COPY}/place.json\n')
+    yield stage
+
+
+def plant(stage: Stage, kind: str) -> Canary:
+    """Each user puts this into the place of all that stands in its folder, or could."""
+    canary = Canary(stage)
+    for user_folder, names in NAMES.items():
+        user = FOLDERS[user_folder]
+        text = f'cd {user_folder}; for name in {names}; do set -- "$name"; {PLANTS[kind]}; done'
+        done = stage.run('setpriv', f'--reuid={user}', f'--regid={user}', '--clear-groups', 'sh', '-ec', text)
+        assert done.status == 0, done
+    assert canary.seen() == [], 'planting itself touches nothing'
+    return canary
+
+
+@pytest.mark.parametrize('kind', PLANTS)
+def test_root_follows_nothing_that_a_service_has_planted(planted: Stage, kind: str) -> None:
+    canary = plant(planted, kind)
+    for what, text in {**privileged_lines(), **WORK}.items():
+        done = planted.run('sh', '-c', text, seconds=100)
+        assert 'Traceback' not in done.err and 'SECRET' not in done.out + done.err, f'{what}: {done}'
+        assert canary.seen() == [], f'{what}: {done}'
+    secrets = planted.run('grep', '-rlD', 'skip', 'SECRET', '/var/lib', '/var/backups', '/etc/goo', '/run/goo')
+    assert secrets.out == '', 'a copy of it is somewhere'
+    canary.close()
+
+
+@pytest.mark.parametrize('kind', [kind for kind in PLANTS if kind != 'pipes'])
+def test_root_follows_nothing_around_the_log(planted: Stage, kind: str) -> None:
+    planted.shell(f'cd {COPY}; rm registry.db; sqlite3 registry.db "CREATE TABLE meta (version, code)"\n'
+                  'echo ok > audit.txt\n'
+                  'echo \'{"n": 3, "hash": "a", "chain": "b", "version": "c"}\' > place.json\n'
+                  'mkdir -p /etc/systemd/system/goo-door.socket.d\n'
+                  'touch /etc/systemd/system/goo-door.socket.d/replica.conf\n'
+                  'systemctl start goo.service goo-replica.service')
+    canary = plant(planted, kind)
+    for words in AROUND_THE_LOG:
+        text = f'PATH=/usr/lib/goo:$PATH; exec timeout -k 1 20 {words.replace("{COPY}", COPY)}'
+        done = planted.run('sh', '-c', text)
+        assert done.status != 124 and 'Traceback' not in done.err, f'{words}: {done}'
+        assert canary.seen() == [], f'{words}: {done}'
+    canary.close()
+
+
+def test_each_user_writes_into_folders_of_its_own_alone(planted: Stage) -> None:
+    planted.shell('systemd-tmpfiles --create goo.conf')
+    for user in USERS:
+        text = f'for folder in {" ".join(ROOTS_FOLDERS)}; do [ ! -w "$folder" ] || echo "$folder"; done'
+        done = planted.run('setpriv', f'--reuid={user}', f'--regid={user}', '--init-groups', 'sh', '-c', text)
+        assert done.out == '', f'{user}: {done.out}'
+
+
+def test_the_records_are_handed_what_the_exchange_told(planted: Stage) -> None:
+    planted.shell('echo {} > /var/lib/goo-exchange/state.json; /usr/lib/goo/hand-over')
+    copied = '/var/lib/goo-records/exchange.json'
+    assert planted.run('stat', '-c', '%U %a', copied).out == 'goo-records 440\n'
+    assert planted.text(copied) == '{}\n'
+
+
+# ------------------------------------------------------------------ what the doctor tells
+
+@functools.cache
+def signed(days: int) -> str:
+    """A certificate that this host signs itself, for so many days from now."""
+    words = ['openssl', 'req', '-x509', '-newkey', 'ec', '-pkeyopt', 'ec_paramgen_curve:P-256', '-nodes',
+             '-days', str(days), '-subj', '/CN=a.example', '-keyout', '/dev/null']
+    return subprocess.run(words, check=True, capture_output=True, text=True).stdout
+
+
+def certificate(path: Path, days: int) -> None:
+    path.parent.mkdir(parents=True, exist_ok=True)
+    path.write_text(signed(days), encoding='ascii')
+
+
+@pytest.fixture
+def etc(tmp_path: Path, monkeypatch: pytest.MonkeyPatch) -> Path:
+    """The configuration of one of three hosts, whose certificates hold for long."""
+    folder = tmp_path / 'etc'
+    for name in ('tls/cert', 'etcd/ca', 'etcd/member', 'etcd/replica', 'peers/09'):
+        certificate(folder / f'{name}.pem', 100)
+    (folder / 'host.conf').write_text('server_name a.example;\n')
+    (folder / 'exchange.conf').write_text(f'[peer 9]\nauthority = {folder}/peers/09.pem\n')
+    (folder / 'records.conf').write_text('GOO_RECORDS_BEGIN=--begun 7 2025-03-01 1\n')
+    monkeypatch.setattr(report, 'ETC', folder)
+    monkeypatch.setattr(report, 'words_of_log', lambda: ['--etcd', 'https://192.0.2.1:2379'])
+    return folder
+
+
+@pytest.mark.parametrize('name', ['tls/cert', 'etcd/ca', 'etcd/member', 'etcd/replica', 'peers/09'])
+@pytest.mark.parametrize(('days', 'told'), [(32, ''), (30, 'ends in 29 days'), (1, 'ends in 0 days')])
+def test_a_certificate_is_told_thirty_days_before_its_end(etc: Path, name: str, days: int, told: str) -> None:
+    assert list(report.certificate_ailments()) == []
+    certificate(etc / f'{name}.pem', days)
+    found = [what for what, _ in report.certificate_ailments()]
+    assert len(found) == bool(told) and all(f'{name}.pem' in what and told in what for what in found), found
+
+
+def test_a_certificate_that_has_ended_is_told(etc: Path, monkeypatch: pytest.MonkeyPatch) -> None:
+    later = report.utc_now() + datetime.timedelta(101)
+    monkeypatch.setattr(report, 'utc_now', lambda: later)
+    assert sum('has ended' in what for what, _ in report.certificate_ailments()) == 5
+
+
+def test_each_certificate_of_a_chain_is_looked_at(etc: Path) -> None:
+    chain = etc / 'tls/cert.pem'
+    chain.write_text(signed(100) + signed(10))
+    assert len(list(report.certificate_ailments())) == 1
+    chain.write_text('no certificate')
+    assert ['cannot be read' in what for what, _ in report.certificate_ailments()] == [True]
+
+
+@pytest.fixture
+def book(etc: Path, monkeypatch: pytest.MonkeyPatch) -> SimpleNamespace:
+    """A registry of three accounts, and a book that has the first `accounts` of them."""
+    state = SimpleNamespace(accounts=3, code=7)
+
+    def ask(path: str, route: str) -> tuple[int, str]:
+        number = int(route.partition('account=')[2].partition('&')[0])
+        items = [{'account': number}] if number <= state.accounts else []
+        return 200, json.dumps({'stands': {}, 'items': items})
+
+    monkeypatch.setattr(report, 'ask', ask)
+    monkeypatch.setattr(report, 'meta_of', lambda *_: 4)
+    monkeypatch.setattr(report, 'code_of_registry', lambda: state.code)
+    return state
+
+
+def test_a_book_that_fits_its_log_is_well(book: SimpleNamespace) -> None:
+    assert list(report.book_ailments(40, 40)) == []
+    assert list(report.book_ailments(40, 20)) == [], 'it comes after the log'
+
+
+@pytest.mark.parametrize(('accounts', 'stands', 'code', 'told'), [
+    (0, 40, 7, 'has not account 3'), (2, 40, 7, 'has not account 3'), (3, 41, 7, 'is of another log'),
+    (3, 40, 8, 'with registry 7, and this is registry 8')])
+def test_a_book_of_another_beginning_is_told(book: SimpleNamespace, accounts: int, stands: int, code: int,
+                                             told: str) -> None:
+    book.accounts, book.code = accounts, code
+    found = list(report.book_ailments(40, stands))
+    assert len(found) == 1 and told in found[0][0] and 'records.conf' in ' '.join(found[0]), found
+
+
+def test_the_book_is_asked_before_the_log(monkeypatch: pytest.MonkeyPatch, book: SimpleNamespace) -> None:
+    """A request that comes between the two makes no fault of it."""
+    state = {'entry': 40}
+
+    def went_on(answer: object) -> object:
+        state['entry'] += 1
+        return answer
+
+    today = datetime.date.today().isoformat()
+    monkeypatch.setattr(report, 'book', lambda: went_on({'entry': state['entry'], 'today': today}))
+    monkeypatch.setattr(report, 'health', lambda: went_on(('', state['entry'])))
+    assert list(report.registry_ailments()) == []
+
+
+def test_what_services_wrote_reaches_no_terminal_as_it_is(capsys: pytest.CaptureFixture[str],
+                                                          monkeypatch: pytest.MonkeyPatch) -> None:
+    monkeypatch.setattr(report, 'ailments', lambda: iter([('\x1b[2Ja\r\nb', 'c\x07')]))
+    assert report.doctor(None) == 1
+    said = capsys.readouterr().out
+    assert said.splitlines()[:2] == ['?[2Ja??b', '    c?'], said
+
+
+# ------------------------------------------------------------------ the units
+
+def lines_of(path: Path) -> dict[str, list[str]]:
+    """The lines of a unit by their names; an empty value takes back those before it."""
+    found: dict[str, list[str]] = {}
+    for line in path.read_text(encoding='utf-8').splitlines():
+        name, equals, value = line.partition('=')
+        if equals and not line.startswith('#'):
+            found[name] = [*found.get(name, []), value] if value else []
+    return found
+
+
+UNITS = {path.name: lines_of(path) for path in (*SERVICE.glob('etc/systemd/*'), SERVICE / 'etc/etcd/goo-etcd.service')}
+SERVICES = {name: lines for name, lines in UNITS.items() if name.endswith('.service')}
+ONE_EACH = {name.replace('.socket', '@.service') for name, lines in UNITS.items() if lines.get('Accept') == ['yes']}
+"""Services of one connection each: whoever has connected is told of a failure."""
+SHUT_IN = ('ProtectSystem', 'ProtectHome', 'PrivateTmp', 'PrivateDevices', 'ProtectClock', 'ProtectHostname',
+           'ProtectKernelLogs', 'ProtectKernelModules', 'ProtectKernelTunables', 'ProtectControlGroups',
+           'LockPersonality', 'MemoryDenyWriteExecute', 'RestrictNamespaces', 'RestrictRealtime',
+           'RestrictSUIDSGID', 'RestrictAddressFamilies', 'CapabilityBoundingSet', 'SystemCallArchitectures',
+           'SystemCallFilter', 'UMask')
+
+
+@pytest.mark.parametrize('name', sorted(SERVICES))
+def test_a_service_that_stays_up_is_never_given_up(name: str) -> None:
+    lines = SERVICES[name]
+    restarts, kind = lines.get('Restart', ['no'])[-1], lines.get('Type', ['simple'])[-1]
+    if kind == 'oneshot' or name in ONE_EACH:
+        return
+    assert restarts in ('always', 'on-failure'), f'{name} stays down'
+    assert lines.get('StartLimitIntervalSec') == ['0'] and 'StartLimitBurst' not in lines
+
+
+@pytest.mark.parametrize('name', sorted(SERVICES))
+def test_a_service_that_fails_is_told(name: str) -> None:
+    if name != 'goo-alarm@.service' and name not in ONE_EACH:
+        assert SERVICES[name]['OnFailure'] == ['goo-alarm@%n.service']
+
+
+@pytest.mark.parametrize('name', sorted(SERVICES))
+def test_a_service_is_shut_in(name: str) -> None:
+    lacking = [line for line in SHUT_IN if line not in SERVICES[name]]
+    assert not lacking, lacking
+
+
+def test_all_that_can_be_enabled_is_started_by_set_up_or_by_the_operator() -> None:
+    installed = {name for name, lines in UNITS.items() if 'WantedBy' in lines}
+    by_operator = {'goo-ship.service', 'goo-exchange.timer', 'goo-etcd.service', common.ON_ONE}
+    by_socket = {'goo-records-web.service', 'goo-records-verify.service'}
+    assert installed - by_operator - set(common.EVERYWHERE) <= by_socket
+    assert set(common.EVERYWHERE) <= set(UNITS)
+    assert set(common.NEWER) <= set(common.EVERYWHERE)
+
+
+# ------------------------------------------------------------------ units that do not stay up
+
+def units_program() -> ModuleType:
+    return import_module('goo_service.setup.units')
+
+
+SHOWN = '\n'.join(['Id={}', 'Type={}', 'ActiveState={}', 'SubState={}', 'Result={}', 'NRestarts={}', ''])
+WELL = SHOWN.format('goo.service', 'exec', 'active', 'running', 'success', '7')
+
+
+@pytest.mark.parametrize(('unit', 'told'), [
+    (('goo-replica.service', 'exec', 'activating', 'auto-restart', 'exit-code', '61'), 'again and again'),
+    (('goo-replica.service', 'exec', 'active', 'running', 'exit-code', '61'), 'started again 11 times'),
+    (('goo-replica.service', 'exec', 'active', 'running', 'success', '52'), ''),
+    (('goo-replica.service', 'exec', 'active', 'running', 'success', '0'), ''),
+    (('goo-replica.service', 'exec', 'failed', 'failed', 'exit-code', '50'), 'has failed (exit-code)'),
+    (('goo-door.socket', '', 'failed', 'failed', 'trigger-limit-hit', ''), 'has failed (trigger-limit-hit)'),
+    (('goo-backup.service', 'oneshot', 'failed', 'failed', 'exit-code', '0'), ''),
+    (('goo-records.service', 'exec', 'inactive', 'dead', 'success', '0'), '')])
+def test_units_that_do_not_stay_up_are_told(unit: tuple[str, ...], told: str) -> None:
+    module = units_program()
+    found = module.faults(module.units_in(f'{WELL}\n{SHOWN.format(*unit)}'),
+                          {'goo.service': 7, 'goo-replica.service': 50})
+    assert len(found) == bool(told) and all(unit[0] in line and told in line for line in found), found
