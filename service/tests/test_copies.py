@@ -23,9 +23,11 @@ from goo_service.log import position
 from goo_service.copies import rows
 from goo_service.log import reversal
 from house import Country
+from house import SERVICE
 from house import House
 from mutations import gsrn
 from plants import copied
+from service_commands import command
 
 GOO = str(Path(loopback.program()).resolve())
 KEY = b'the key of a trial'
@@ -289,7 +291,7 @@ def state_of(log: Log) -> Path:
 
 
 def replica_log(*words: object, check: bool = False) -> subprocess.CompletedProcess[str]:
-    program = Path(nightly.__file__).with_name('replica-log')
+    program, = command('goo-replica-log', SERVICE)
     done = subprocess.run([program, *map(str, words)], capture_output=True, text=True, check=False)
     assert not check or not done.returncode, done
     return done
@@ -331,11 +333,11 @@ def test_root_reaches_no_further_than_the_owner_of_the_folder(
     link.symlink_to(secret if is_folder else secret / '2025-03.jsonl')
     os.lchown(link, NOBODY, NOBODY)
     before = {one: (one.read_bytes(), untouched(one)) for one in secret.iterdir()}
-    for command in (['found'], ['version', 'next'], ['compress'], ['verify'], ['first-copy'],
+    for given in (['found'], ['version', 'next'], ['compress'], ['verify'], ['first-copy'],
                     ['place', log.copies]):
-        done = replica_log(*command, '--state', state, *words)
-        assert 'Traceback' not in done.stderr, (command, done)
-        assert not (path.startswith('archive') and command == ['verify'] and not done.returncode)
+        done = replica_log(*given, '--state', state, *words)
+        assert 'Traceback' not in done.stderr, (given, done)
+        assert not (path.startswith('archive') and given == ['verify'] and not done.returncode)
     assert set(secret.iterdir()) == before.keys()
     for one, (text, there) in before.items():
         assert marks(one) == there and one.read_bytes() == text
@@ -514,8 +516,8 @@ def test_writes_wait_while_the_file_is_copied_and_go_on_however_it_ends(log_hous
     """Whoever holds ends by itself, is killed, or holds too long. Reads are answered meanwhile."""
     house = log_house
     house.make_country()
-    program = ('import sys, time; sys.path.insert(0, sys.argv[1]); import replica_hold\n'
-               'with replica_hold.held(sys.argv[2]) as hold:\n'
+    program = ('import sys, time; sys.path.insert(0, sys.argv[1]); from goo_service.log import hold as holding\n'
+               'with holding.held(sys.argv[2]) as hold:\n'
                '    print(hold.n, flush=True)\n'
                '    time.sleep(float(sys.argv[3]))\n'
                '    print(hold.lasts(), flush=True)\n')
@@ -688,7 +690,7 @@ def line_after(point: reversal.Point) -> bytes:
 
 def first_copy(folder: Path, db: Path) -> None:
     """The first copy of a log, with the folders of a host below one folder."""
-    program = Path(nightly.__file__).with_name('replica-log')
+    program, = command('goo-replica-log', SERVICE)
     done = subprocess.run(
         [program, 'first-copy', *words_below(folder, db)], capture_output=True, text=True,
         check=False, env={**os.environ, 'GOO_BOOK': str(folder / 'book'),

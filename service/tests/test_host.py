@@ -55,7 +55,7 @@ class Sender:
     def __init__(self, folder: Path) -> None:
         self.folder, self.registry, self.next = folder, Registry(), itertools.count(1)
 
-    def visit(self) -> visit.Visit:
+    def visited(self) -> visit.Visit:
         outbox = Outbox(self.folder / 'outbox', 7, None)
         ours = SimpleNamespace(folder=self.folder, registry=self.registry, outbox=outbox, code=7)
         of_this = visit.Visit(ours, SimpleNamespace(code=9))
@@ -84,36 +84,36 @@ def sender(tmp_path: Path) -> Sender:
 # October at 1 MW: 31 days of 24 hours and one hour more make 745 MWh; a carry makes it 745 certificates
 @pytest.mark.parametrize(('count', 'is_held'), [(745, False), (746, True)])
 def test_a_notice_above_capacity_times_hours_is_held(sender: Sender, count: int, is_held: bool) -> None:
-    became = sender.brings(sender.visit(), (1, count))
+    became = sender.brings(sender.visited(), (1, count))
     assert became.startswith('held: ') == is_held, became
     assert len(sender.registry.taken) == (not is_held)
     assert not is_held or (DEVICE in became and '745' in became and '746' in became)
 
 
 def test_energy_counts_what_came_before_in_other_runs(sender: Sender) -> None:
-    assert sender.brings(sender.visit(), (1, 400)) == 'accepted'
-    visit = sender.visit()
-    assert sender.brings(visit, (401, 745)) == 'accepted'
-    assert sender.brings(visit, (746, 746)).startswith('held: ')
-    assert sender.brings(sender.visit(), (1, 745)) == 'accepted', 'the same certificates once more'
+    assert sender.brings(sender.visited(), (1, 400)) == 'accepted'
+    later = sender.visited()
+    assert sender.brings(later, (401, 745)) == 'accepted'
+    assert sender.brings(later, (746, 746)).startswith('held: ')
+    assert sender.brings(sender.visited(), (1, 745)) == 'accepted', 'the same certificates once more'
 
 
 def test_energy_counts_all_parts_and_each_capacity(sender: Sender) -> None:
-    assert sender.brings(sender.visit(), (1, 400), (500, 900)).startswith('held: ')
-    visit = sender.visit()
+    assert sender.brings(sender.visited(), (1, 400), (500, 900)).startswith('held: ')
+    visit = sender.visited()
     assert sender.brings(visit, (1, 700)) == 'accepted'
     assert sender.brings(visit, (701, 1400), capacity_w=999_999).startswith('held: ')
 
 
 def test_other_months_and_our_own_certificates_are_apart(sender: Sender) -> None:
-    visit = sender.visit()
+    visit = sender.visited()
     assert sender.brings(visit, (1, 745)) == 'accepted'
     assert sender.brings(visit, (800, 1500), first_day='2024-09-01', last_day='2024-09-30') == 'accepted'
     assert sender.brings(visit, (1, 2000), origin=7) == 'accepted', 'our own lot, which we judged'
 
 
 def test_a_released_notice_is_imported(sender: Sender) -> None:
-    visit = sender.visit()
+    visit = sender.visited()
     assert sender.brings(visit, (1, 2000)).startswith('held: ')
     visit.deliver(1, visit.inbox.taken(1), True)
     assert len(sender.registry.taken) == 1 and not visit.inbox.waiting
@@ -122,7 +122,7 @@ def test_a_released_notice_is_imported(sender: Sender) -> None:
 @pytest.mark.parametrize('lot', [{'capacity_w': '5'}, {'device': 'x\n'}, {'first_day': 5},
                                  {'last_day': '2024-99-99'}, {'capacity_w': -1}, {'capacity_w': 10 ** 30}])
 def test_values_of_another_form_are_left_to_the_registry(sender: Sender, lot: dict[str, object]) -> None:
-    assert sender.brings(sender.visit(), (1, 9000), **lot) == 'accepted'
+    assert sender.brings(sender.visited(), (1, 9000), **lot) == 'accepted'
 
 
 def closed_early(*words: object, **more: object) -> subprocess.CompletedProcess[str]:
@@ -273,7 +273,7 @@ def test_a_version_that_does_not_take_over_leaves_the_one_of_before(registry: St
 def test_a_set_up_that_is_ended_half_way_leaves_what_ran(registry: Stage, number: int) -> None:
     unpack(registry, more='[ -e /run/stage/goes-on ] || { touch /tmp/waits; sleep 30; };')
     registry.shell('rm -f /tmp/waits')
-    begun = registry.begin('/usr/sbin/goo-setup', 'upgraded')
+    begun = registry.begin('/usr/bin/goo-setup', 'upgraded')
     for _ in range(200):
         if registry.run('ls', '/tmp/waits').out:
             break
@@ -380,10 +380,10 @@ PLANTS = {
                           'ln -s /run/canary/file "$1/place.json"; ln -s /run/canary/folder "$1/folder"',
 }
 AROUND_THE_LOG = (
-    'replica-log verify', 'replica-log verify --from {COPY}', 'replica-log compress', 'replica-log found',
-    'replica-log version x', 'replica-log first-copy', 'replica-log place {COPY}', 'replica-log copy',
-    'env GOO_RECOUNT= backup', 'goo-setup upgraded', 'restore {COPY} --without-list --although-broken',
-    'restore --open --unsettled', 'log-setup')
+    'goo-replica-log verify', 'goo-replica-log verify --from {COPY}', 'goo-replica-log compress', 'goo-replica-log found',
+    'goo-replica-log version x', 'goo-replica-log first-copy', 'goo-replica-log place {COPY}', 'goo-replica-log copy',
+    'env GOO_RECOUNT= goo-copies backup', 'goo-setup upgraded', 'goo-copies restore {COPY} --without-list --although-broken',
+    'goo-copies restore --open --unsettled', 'log-setup')
 """What root carries out by the programs of the log and of the copies; the later ones change what runs."""
 ROOTS_FOLDERS = ('/run', '/run/goo', '/run/goo-front', '/var/lib', '/var/log/goo', '/var/backups/goo',
                  '/etc/goo', '/etc/goo/peers', '/etc/goo/tls', '/usr/lib/goo', '/run/goo-units')

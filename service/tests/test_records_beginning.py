@@ -2,7 +2,6 @@
 import json
 import shutil
 import subprocess
-import sys
 from pathlib import Path
 
 from goo_service.log import entries
@@ -20,7 +19,7 @@ ADVICE = 'GOO_RECORDS_BEGIN=--copy COPY'
 
 def followed(folder: Path, *words: object) -> subprocess.CompletedProcess[str]:
     """`records follow` over the archive of a folder, to its end."""
-    whole = [sys.executable, '-B', RECORDS, 'follow', *words, '--archive', folder / 'archive',
+    whole = [RECORDS, 'follow', *words, '--archive', folder / 'archive',
              '--into', folder / 'book', '--once']
     return subprocess.run([str(word) for word in whole], capture_output=True, text=True, timeout=60,
                           check=False)
