@@ -1,4 +1,4 @@
-"""`advance` moves the registry's date to the day of this host, by the host's own clock and zone."""
+"""`goo-advance` moves the registry's date to the day of this host, by the host's own clock and zone."""
 import datetime
 import http.server
 import json
@@ -15,6 +15,9 @@ import pytest
 from house import SERVICE
 from house import House
 from house import ISSUER
+from service_commands import command
+
+ADVANCE = command('goo-advance', SERVICE)
 
 
 @dataclass
@@ -27,11 +30,9 @@ class Registry:
 
     def advance(self, clock: str = '', zone: str = 'UTC') -> subprocess.CompletedProcess[str]:
         """`advance` with the host's clock, or with another one."""
-        around = {name: value for name, value in os.environ.items() if name != 'GOO_DAY'}
         words = ['faketime', clock] if clock else []
-        return subprocess.run([*words, SERVICE / 'libexec/advance'], capture_output=True, text=True,
-                              env={**around, 'GOO_SOCKET': str(self.socket), 'TZ': zone},
-                              check=False)
+        return subprocess.run([*words, *ADVANCE, '--door', str(self.socket)], capture_output=True,
+                              text=True, env={**os.environ, 'TZ': zone}, check=False)
 
 
 class Server(socketserver.ThreadingUnixStreamServer):
@@ -78,7 +79,7 @@ def test_the_day_of_this_host_reaches_the_registry() -> None:
     with House(parts=('registry', 'log'), day=str(before - datetime.timedelta(20))) as house:
         house.make_country()
         socket = str(house.folder / 'door.sock')
-        done = house.run(SERVICE / 'libexec/advance', check=False, GOO_SOCKET=socket)
+        done = house.run(*ADVANCE, '--door', socket, check=False)
         after = datetime.date.today()
         assert done.returncode == 0, done
         shown = house.ask_log(ISSUER, 'GET', '/v1/accounts/1/statement').text.splitlines()

@@ -18,6 +18,7 @@ from alone import SERVICE
 from alone import KEY
 from alone import Alone
 from house import Answer
+from service_commands import command
 
 HEADER = b'key,device,first_day,last_day,gross_wh,aux_wh\n'
 ROW = b'k,500000000000000012,2025-02-01,2025-02-14,5,0\n'
@@ -54,11 +55,11 @@ def test_what_is_out_of_bounds_is_no_entry(log: Alone) -> None:
         answer = log.table(HEADER + b'a\n' * count, 'SUN')
         assert answer.status == status
         assert status == 200 or '21001 rows' in error_of(answer)
-    for size, caller, command, status in (
+    for size, caller, word, status in (
             (65_536, 'SUN', 'cancel', 200), (65_537, 'SUN', 'cancel', 413),
             (65_537, 'ISSUER', 'cancel', 413), (MEGABYTE, 'ISSUER', 'import', 200),
             (MEGABYTE, 'SUN', 'import', 413)):
-        head = json.dumps({'command': command, 'key': 'a'})[:-1] + ',"reason":"'
+        head = json.dumps({'command': word, 'key': 'a'})[:-1] + ',"reason":"'
         answer = log.send((head + 'x' * (size - len(head) - 2) + '"}').encode(), caller)
         assert answer.status == status
         assert status == 200 or '65536' in error_of(answer)
@@ -164,8 +165,9 @@ def test_root_alone_confirms(log: Alone) -> None:
 
 def test_the_operator_s_word_confirms(log: Alone) -> None:
     def advance(*words: str) -> subprocess.CompletedProcess[str]:
-        return subprocess.run([SERVICE / 'libexec/advance', *words], capture_output=True, text=True,
-                              timeout=30, env={**os.environ, 'GOO_SOCKET': str(log.door)})
+        program = command('goo-advance', SERVICE)
+        return subprocess.run([*program, *words, '--door', str(log.door)], capture_output=True,
+                              text=True, timeout=30, check=False)
     assert advance(TOMORROW).returncode == 1
     assert not log.records()
     assert advance(TOMORROW, '--confirm', TOMORROW).returncode == 0

@@ -1,7 +1,6 @@
 """The log in the standing service: bounds, roles, the date, and a second one by mistake."""
 import datetime
 import json
-import os
 import subprocess
 from pathlib import Path
 
@@ -10,6 +9,7 @@ import pytest
 from house import SERVICE
 from house import Answer
 from house import House
+from service_commands import command
 
 HEADER = b'key,device,first_day,last_day,gross_wh,aux_wh\n'
 TODAY = datetime.date.today().isoformat()
@@ -50,8 +50,8 @@ def test_the_date_moves_past_the_host_s_day_by_the_operator_alone(own_house: Hou
     assert own_house.entry() == before
     for words, status in (((TODAY, '--confirm', TODAY), 0), ((TOMORROW,), 1),
                           ((TOMORROW, '--confirm', TOMORROW), 0)):
-        done = subprocess.run([SERVICE / 'libexec/advance', *words], capture_output=True, text=True,
-                              env={**os.environ, 'GOO_SOCKET': str(own_house.folder / 'door.sock')})
+        done = own_house.run(*command('goo-advance', SERVICE), *words,
+                             '--door', own_house.folder / 'door.sock', check=False)
         assert done.returncode == status, done
     assert own_house.entry() == before + 2
     assert f'date {TOMORROW}\n' in own_house.ask('office', 'GET', '/v1/accounts/1/statement').text

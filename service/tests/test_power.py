@@ -346,6 +346,6 @@ def test_an_entry_applied_before_the_log_is_synced_is_seen(service: Path) -> Non
 
 def test_a_file_whose_name_is_never_synced_is_seen(service: Path) -> None:
     make_small(service)
-    append(service, 'goo_service/log/entries.py', '\n\ndef sync_folder(folder):\n    pass\n')
+    append(service, 'goo_service/common/files.py', '\n\ndef sync_folder(folder):\n    pass\n')
     with pytest.raises(Lost):
         try_power(service, seed=5)

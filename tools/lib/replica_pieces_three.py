@@ -2,7 +2,6 @@
 import collections
 import contextlib
 import json
-import os
 import random
 import re
 import shutil
@@ -13,6 +12,7 @@ import threading
 import time
 from replica_trial import (CODE, GATE, GOO, HOME, REPLICA, REPLICA_LOG, SERVICE, VERSION, Weak, ask, check, day, gsrn, must, run, tally, until)
 import client
+import service_commands
 from goo_service.log import entries
 
 
@@ -412,10 +412,9 @@ def replaced(cluster, work):
 
 
 def agents(cluster, work):
-    """The date moved by service/libexec/advance on all three hosts at once: one moves it, the others are told that it was moved."""
+    """The date moved by goo-advance on all three hosts at once: one moves it, the others are told that it was moved."""
     cluster.even(60)
-    said = [subprocess.Popen(host.inside(HOME / "service/libexec/advance", "2026-03-02"), stdout=subprocess.PIPE, stderr=subprocess.STDOUT, text=True,
-                             env={**os.environ, "GOO_URL": f"http://127.0.0.1:{host.port}", "GOO_DAY": "2026-03-02"}) for host in cluster.hosts]
+    said = [subprocess.Popen(host.inside(*service_commands.command("goo-advance"), "2026-03-02", "--door", f"127.0.0.1:{host.port}"), stdout=subprocess.PIPE, stderr=subprocess.STDOUT, text=True) for host in cluster.hosts]
     told = [one.communicate(timeout=120)[0] for one in said]
     outcomes = sorted(re.search("accepted|repeated|already|$", text)[0] for text in told)
     check(f"the date moved on three hosts at once: {outcomes}, status {[one.returncode for one in said]}", all(one.returncode == 0 for one in said) and outcomes.count("accepted") == 1, told)

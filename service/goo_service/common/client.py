@@ -24,7 +24,7 @@ FULL: Fields = {'GOO-Caller': 'ISSUER', 'GOO-Role': 'full'}
 """The fields of a request that the issuing body's own programs send."""
 
 
-class NoAnswer(Exception):
+class NoAnswer(ConnectionError):
     """No whole answer came in time, or it was longer than its bound."""
 
 

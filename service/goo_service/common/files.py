@@ -23,7 +23,7 @@ def make_folder(folder: Path, mode: int = 0o755) -> None:
     sync_folder(folder.parent)
 
 
-def write_whole(path: Path, content: str | bytes, mode: int = 0o644, owner: Owner | None = None,
+def write_whole(path: Path, content: str | bytes, mode: int = 0o640, owner: Owner | None = None,
                 is_synced: bool = True) -> None:
     """Writes a file under its name at once. Nobody else reads it before, or with another mode.
 

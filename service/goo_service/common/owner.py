@@ -4,11 +4,14 @@ A service that was taken over can put a link at each path below its own folder. 
 give away what lies behind it. The owner reaches there no more than he reaches anyway. So root opens nothing below such a folder:
 the child opens files, and what it reads comes back through a pipe, as bytes and nothing else.
 """
+import grp
 import os
+import pwd
 import shutil
 import struct
 import sys
-from collections.abc import Callable, Iterator
+from collections.abc import Callable
+from collections.abc import Iterator
 from dataclasses import dataclass
 from pathlib import Path
 from typing import BinaryIO
@@ -27,6 +30,11 @@ class Owner:
     """A user and a group, by their numbers."""
     user: int
     group: int
+
+    @staticmethod
+    def named(user: str, group: str) -> 'Owner':
+        """LookupError where this host has no such user, or no such group."""
+        return Owner(pwd.getpwnam(user).pw_uid, grp.getgrnam(group).gr_gid)
 
 
 def owner_of(folder: Path) -> Owner | None:

@@ -12,6 +12,7 @@ from contextlib import ExitStack, closing
 from pathlib import Path
 from typing import BinaryIO
 
+from goo_service.common.files import write_whole
 from goo_service.copies.contents import open_regular
 from goo_service.common.owner import done_as_owner, remove
 
@@ -38,7 +39,7 @@ def place_beginning(copy: Path, n: int, configuration: Path) -> str:
         files = {name: stack.enter_context(open_regular(copy / name)) for name in FILES}
         done_as_owner(BOOK, lambda: write_first(files))
     write_whole(told, '# How the book of acts begins (RECORDS.md)\n'
-                      f'GOO_RECORDS_BEGIN=--copy {BOOK / FIRST} --after {n}\n')
+                      f'GOO_RECORDS_BEGIN=--copy {BOOK / FIRST} --after {n}\n', 0o644)
     return f'{told}: the book of acts begins with this copy, after entry {n}'
 
 
@@ -60,10 +61,3 @@ def write_first(files: dict[str, BinaryIO]) -> None:
             new.flush()
             os.fsync(new.fileno())
     part.rename(first)
-
-
-def write_whole(path: Path, text: str) -> None:
-    part = path.with_name(f'.{path.name}.part')
-    part.write_text(text)
-    part.chmod(0o644)
-    part.replace(path)

@@ -40,9 +40,11 @@ import signal
 import sqlite3
 import subprocess
 import sys
-import tempfile
 import time
 
+from goo_service.common.client import Client
+from goo_service.common.client import NoAnswer
+from goo_service.common.files import write_whole
 from goo_service.copies import contents
 from goo_service.common.owner import NotDone, as_owner, done_as_owner, remove
 from goo_service.common.programs import words_of
@@ -238,11 +240,8 @@ def begin_generation(folder):
 def new_generation(folder):
     """As the agent, who owns the exchange's folder."""
     number = max(1, number_in(EXCHANGE / 'generation.json'), number_in(EXCHANGE / 'restored.json')) + 1
-    with tempfile.NamedTemporaryFile('w', dir=EXCHANGE, delete=False) as part:
-        json.dump({'generation': number, 'copy': folder.name, 'time': time.strftime('%Y-%m-%dT%H:%M:%SZ', time.gmtime())}, part)
-        os.fchmod(part.fileno(), 0o640)
-    os.replace(part.name, EXCHANGE / 'restored.json')
-    contents.sync(EXCHANGE)
+    told = {'generation': number, 'copy': folder.name, 'time': time.strftime('%Y-%m-%dT%H:%M:%SZ', time.gmtime())}
+    write_whole(EXCHANGE / 'restored.json', json.dumps(told))
     return str(number).encode()
 
 
@@ -320,8 +319,8 @@ def compare_configuration(folder, put_back):
 def wait_for_registry():
     """It has to answer before it is said to run."""
     for _ in range(PATIENCE):
-        done = subprocess.run(['curl', '--silent', '--output', '/dev/null', '--max-time', '60', '--unix-socket', SOCKET, '--header', 'GOO-Caller: ISSUER', 'http://localhost/v1/notices/1'])
-        if done.returncode == 0:
+        with contextlib.suppress(NoAnswer):
+            Client(SOCKET, 60).get('/v1/notices/1')
             return
         time.sleep(1)
     raise contents.Unfit('the registry does not answer: see journalctl -u goo')

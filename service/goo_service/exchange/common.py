@@ -1,4 +1,4 @@
-"""What the modules of the exchange share: errors, files that appear whole, the chain over texts, the reading of a notice."""
+"""What the modules of the exchange share: errors, files as they are read, the chain over texts, the reading of a notice."""
 import collections
 import functools
 import hashlib
@@ -47,20 +47,6 @@ def say(text):
         print(f'{text}\n', end='', flush=True)
     except BrokenPipeError:
         os.dup2(os.open(os.devnull, os.O_WRONLY), sys.stdout.fileno())
-
-
-def write(path, text):
-    """The file is there whole or not at all, and stays there."""
-    path.parent.mkdir(parents=True, exist_ok=True)
-    part = path.parent / f'.{path.name}.part'
-    with open(part, 'wb') as file:
-        file.write(text.encode())
-        file.flush()
-        os.fsync(file.fileno())
-    os.replace(part, path)
-    folder = os.open(path.parent, os.O_RDONLY)
-    os.fsync(folder)
-    os.close(folder)
 
 
 def read(path):

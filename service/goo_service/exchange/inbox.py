@@ -5,7 +5,8 @@ One that was not imported stays in FOLDER/refused/CC-P as well, until it is or t
 """
 import datetime
 
-from goo_service.exchange.common import Again, chain_of, chained, compact, read, read_object, write
+from goo_service.common.files import write_whole
+from goo_service.exchange.common import Again, chain_of, chained, compact, read, read_object
 
 FRESH = {'generation': 0, 'seen': 0, 'highest': 0, 'chain': '', 'cursor': 0, 'changed': '', 'proved': '', 'waiting': {}, 'settled': {}, 'told': {}, 'contact': ''}
 """Its generation that we go by, and the one that it showed last; how many positions were fetched ever, and the chain over them; how far they were delivered;
@@ -39,7 +40,7 @@ class Inbox:
 
     def put(self, **values):
         self.record.update(values)
-        write(self.path, compact(self.record) + '\n')
+        write_whole(self.path, compact(self.record) + '\n')
 
     def meets(self, state):
         """Notes what a state of the peer says."""
@@ -70,8 +71,8 @@ class Inbox:
         """Keeps what was fetched, and notes it: from now on the peer is told that we have it."""
         new = position > self.highest
         changed = not new and self.taken(position) not in (None, text)
-        write(self.outbox.place(self.peer, f'taken-{position}.sig'), signature)
-        write(self.outbox.place(self.peer, f'taken-{position}'), text)
+        write_whole(self.outbox.place(self.peer, f'taken-{position}.sig'), signature)
+        write_whole(self.outbox.place(self.peer, f'taken-{position}'), text)
         if new:
             self.record.update(highest=position, chain=chained(self.chain, text))
         elif changed:
@@ -84,7 +85,7 @@ class Inbox:
             file.unlink(missing_ok=True)
             self.waiting.pop(str(position), None)
         else:
-            write(file, self.taken(position))
+            write_whole(file, self.taken(position))
             self.waiting[str(position)] = of
         self.settled.pop(str(position), None)
         self.put(cursor=position if position == self.cursor + 1 else self.cursor)

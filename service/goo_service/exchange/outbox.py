@@ -8,7 +8,8 @@
 import bisect
 import re
 
-from goo_service.exchange.common import MOST, Again, Refused, chain_of, read, read_notice, write
+from goo_service.common.files import write_whole
+from goo_service.exchange.common import MOST, Again, Refused, chain_of, read, read_notice
 
 
 def overlaps(left, part):
@@ -67,8 +68,8 @@ class Outbox:
 
     def show(self, peer, name, text):
         """A file for a peer, with its signature: the signature first, since a reader asks for it second."""
-        write(self.place(peer, f'{name}.sig'), self.key.sign(text))
-        write(self.place(peer, name), text)
+        write_whole(self.place(peer, f'{name}.sig'), self.key.sign(text))
+        write_whole(self.place(peer, name), text)
 
     def highest(self, peer):
         """How many notices for a peer stand there in order."""

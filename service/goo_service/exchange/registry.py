@@ -1,26 +1,14 @@
 """Our own registry, which the exchange asks as the issuing body: over a Unix socket, or over HTTP on loopback."""
-import http.client
+import dataclasses
 import json
-import socket
 import urllib.parse
 
+from goo_service.common.client import Client
+from goo_service.common.client import NoAnswer
 from goo_service.exchange.common import LARGEST, Again, Refused
 
 PATIENCE = 300                  # seconds; a registry that reads in a large file answers after it
 HEAD = 4096                     # bytes of a statement in which its holder stands
-
-
-class UnixConnection(http.client.HTTPConnection):
-    """HTTP over a Unix socket."""
-
-    def __init__(self, path):
-        super().__init__('localhost', timeout=PATIENCE)
-        self.path = path
-
-    def connect(self):
-        self.sock = socket.socket(socket.AF_UNIX, socket.SOCK_STREAM)
-        self.sock.settimeout(self.timeout)
-        self.sock.connect(self.path)
 
 
 class Registry:
@@ -31,9 +19,9 @@ class Registry:
         self.address = section.get('registry', 'unix:/run/goo/door.sock')
         url = urllib.parse.urlsplit(self.address)
         if url.scheme == 'unix' and url.path.startswith('/'):
-            self.connect = lambda: UnixConnection(url.path)
+            self.client = Client(url.path, PATIENCE)
         elif url.scheme == 'http' and url.hostname == '127.0.0.1':
-            self.connect = lambda: http.client.HTTPConnection('127.0.0.1', url.port or 80, timeout=PATIENCE)
+            self.client = Client(f'127.0.0.1:{url.port or 80}', PATIENCE)
         else:
             raise ValueError('our own registry is reached at unix:/PATH or http://127.0.0.1:PORT alone')
 
@@ -42,19 +30,16 @@ class Registry:
         path = self.address.removeprefix('unix:')
         return f'{self.address}/v1/requests' if path == self.address else f'--unix-socket {path} http://localhost/v1/requests'
 
-    def ask(self, method, path, body=None, most=LARGEST):
+    def ask(self, method, path, body=b'', most=LARGEST):
         """Status and text of an answer. Nothing asked here does harm when it is asked twice, so once more where none came."""
+        client = dataclasses.replace(self.client, most=most)
         for last in (False, True):
-            connection = self.connect()
             try:
-                connection.request(method, path, body, {'GOO-Caller': 'ISSUER', 'GOO-Role': 'full'})
-                answer = connection.getresponse()
-                return answer.status, answer.read(most).decode(errors='replace')
-            except (OSError, http.client.HTTPException) as fault:
+                answer = client.beginning(path, HEAD) if most == HEAD else client.call(method, path, body)
+                return answer.status, answer.text
+            except NoAnswer as fault:
                 if last:
-                    raise Again(f'our registry: no answer: {type(fault).__name__} {fault}'.strip()) from fault
-            finally:
-                connection.close()
+                    raise Again(f'our registry: no answer: {fault}') from fault
 
     def get(self, path, most=LARGEST):
         """The text at a path; None where there is nothing."""

@@ -1,7 +1,8 @@
 """What is shown of a run: our state for each peer, signed, and state.json for the programs of this host."""
 import json
 
-from goo_service.exchange.common import Again, Refused, compact, read, read_notice, write
+from goo_service.common.files import write_whole
+from goo_service.exchange.common import Again, Refused, compact, read, read_notice
 from goo_service.exchange.inbox import FRESH, now
 
 NOTHING = {'generation': 0, 'highest': 0, 'chain': '', 'refused': {}}
@@ -63,4 +64,4 @@ def write_report(ours, visits, left):
         peers.append({'registry': peer, 'generation': of['generation'], 'contact': of['contact'] or None, 'trouble': visit.left if visit else [],
                       'sent': list(sent(ours, peer, of['told'])), 'received': list(received(inbox)) if inbox else []})
     report = {'registry': ours.code, 'generation': ours.generation, 'restoring': ours.restoring, 'written': now(), 'trouble': left, 'peers': peers}
-    write(ours.folder / 'state.json', json.dumps(report, indent=1, sort_keys=True) + '\n')
+    write_whole(ours.folder / 'state.json', json.dumps(report, indent=1, sort_keys=True) + '\n')

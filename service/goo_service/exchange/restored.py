@@ -7,7 +7,8 @@ are not is told, with the request to send. Then restored.json goes.
 """
 import shutil
 
-from goo_service.exchange.common import Again, Refused, chain_of, compact, read, read_notice, read_object, say, write
+from goo_service.common.files import write_whole
+from goo_service.exchange.common import Again, Refused, chain_of, compact, read, read_notice, read_object, say
 from goo_service.exchange.inbox import now
 from goo_service.exchange.outbox import overlaps
 
@@ -40,14 +41,14 @@ class Generation:
         """By the operator's word: this registry went back to a copy, and is of this generation now."""
         if number <= (self.known or 0):
             raise ValueError(f'our registry is of generation {self.known} already')
-        write(self.restored, compact({'generation': number, 'copy': None, 'time': now()}) + '\n')
+        write_whole(self.restored, compact({'generation': number, 'copy': None, 'time': now()}) + '\n')
         self.to_be = number
 
     def is_new(self):
         """There was no other before."""
         if self.number is not None:
             raise ValueError(f'our registry is of generation {self.number} already')
-        write(self.file, compact({'generation': 1}) + '\n')
+        write_whole(self.file, compact({'generation': 1}) + '\n')
         self.known = 1
 
     def without(self, peer=None):
@@ -57,7 +58,7 @@ class Generation:
         of = read_object(self.restored)
         if peer:
             of['without'] = sorted({*of.get('without', []), peer})
-            write(self.restored, compact(of) + '\n')
+            write_whole(self.restored, compact(of) + '\n')
         return of.get('without', [])
 
     def is_shown(self):
@@ -65,12 +66,12 @@ class Generation:
         return bool(read_object(self.restored).get('shown'))
 
     def show(self):
-        write(self.restored, compact({**read_object(self.restored), 'shown': True}) + '\n')
+        write_whole(self.restored, compact({**read_object(self.restored), 'shown': True}) + '\n')
 
     def finish(self):
         """Whole again. The first line makes sure that it stays so where this is cut off."""
-        write(self.restored, compact({'generation': self.number, 'done': True}) + '\n')
-        write(self.file, compact({'generation': self.number}) + '\n')
+        write_whole(self.restored, compact({'generation': self.number, 'done': True}) + '\n')
+        write_whole(self.file, compact({'generation': self.number}) + '\n')
         self.restored.unlink()
         self.known, self.to_be = self.number, None
 
@@ -107,7 +108,7 @@ class Restoring:
         visit.peer.begin()
         for position in range(1, told['highest'] + 1):
             text = read(folder / str(position)) or visit.peer.taken(position, self.ours.key.public)
-            write(folder / str(position), text)
+            write_whole(folder / str(position), text)
             texts.append(text)
         if chain_of(texts) != told['chain']:
             shutil.rmtree(folder)

@@ -22,6 +22,8 @@ import time
 import typing
 import zlib
 
+from goo_service.common.files import sync_folder
+
 MONTH = re.compile(r'\d{4}-\d{2}\.jsonl(\.gz)?')
 NO_CHAIN = '-'                          # the chain of outcomes before entry 1
 PLAIN = ('/v1/requests', 200)           # the route and the status of a request that was accepted, or repeated
@@ -380,12 +382,6 @@ def write_all(file, text):
     except OSError:
         os.ftruncate(file, os.fstat(file).st_size - done)
         raise
-
-
-def sync_folder(folder):
-    file = os.open(folder, os.O_RDONLY)
-    os.fsync(file)
-    os.close(file)
 
 
 def end_of(path, size=TAIL):

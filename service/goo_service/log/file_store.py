@@ -5,6 +5,7 @@ line before. An entry counts once it is synced to the disk. Files whose entries 
 """
 import collections, fcntl, os, pathlib, time
 
+from goo_service.common.files import sync_folder
 from goo_service.log import entries
 
 SIZE = 16 << 20                 # bytes after which a new file is begun
@@ -92,7 +93,7 @@ class FileStore:
     def open(self, path):
         self.file = os.open(path, CREATED, 0o640)
         os.fsync(self.file)                     # what is there may be applied only once it is on the disk
-        entries.sync_folder(self.folder)
+        sync_folder(self.folder)
 
     async def end(self):
         """The log's end, at or after the time of the call."""
@@ -243,4 +244,4 @@ def begin(folder, line, n):
         file.write(line + b"\n")
         file.flush()
         os.fsync(file.fileno())
-    entries.sync_folder(folder)
+    sync_folder(folder)

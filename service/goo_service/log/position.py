@@ -1,6 +1,7 @@
 """The place: up to which entry the registry beside a replica has applied the log."""
 import fcntl, hashlib, os
 
+from goo_service.common.files import sync_folder
 from goo_service.log import entries
 
 SLOT = 4096
@@ -63,4 +64,4 @@ def begin(path, n, h, chain=entries.NO_CHAIN):
         file.write(slot_text(n, h, chain).ljust(SLOT, b"\n") + b"\n" * SLOT)
         file.flush()
         os.fsync(file.fileno())
-    entries.sync_folder(os.path.dirname(os.path.abspath(path)))
+    sync_folder(os.path.dirname(os.path.abspath(path)))

@@ -23,6 +23,7 @@ from goo_service.log import entries
 from goo_service.log import file_store
 from goo_service.log import position
 from goo_service.log import roles
+from goo_service.common.files import sync_folder
 from goo_service.common.owner import remove
 from goo_service.log.hold import Door
 
@@ -126,11 +127,11 @@ def keep(state: Path, n: int) -> Path:
         (part / name).mkdir(parents=True)
         for path in (state / name).iterdir():
             os.link(path, part / name / path.name, follow_symlinks=False)
-        entries.sync_folder(part / name)
-    entries.sync_folder(part)
+        sync_folder(part / name)
+    sync_folder(part)
     folder = state / f'undone-{n}-{time.strftime("%Y-%m-%dT%H%M%SZ", time.gmtime())}'
     part.rename(folder)
-    entries.sync_folder(state)
+    sync_folder(state)
     return folder
 
 
@@ -152,7 +153,7 @@ def cut(archive: Path, n: int) -> None:
             part.replace(archive / f'{path.name[:7]}.jsonl')
         if path.suffix == '.gz' or is_empty:
             path.unlink()
-        entries.sync_folder(archive)
+        sync_folder(archive)
         if not is_empty:
             return
 
@@ -162,7 +163,7 @@ def set_log_aside(state: Path, folder: Path) -> None:
     log = state / 'log'
     if log.exists():
         log.rename(folder / f'log-{time.time_ns()}')
-    entries.sync_folder(state)
+    sync_folder(state)
 
 
 def set_request_aside(state: Path, folder: Path, n: int) -> None:

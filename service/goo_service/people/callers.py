@@ -19,12 +19,13 @@ Exit status 0: written. 1: a fault, nothing written; or nginx refused. 2: wrong 
 """
 import argparse
 import collections
-import os
 import pathlib
 import re
 import shlex
 import subprocess
 import sys
+
+from goo_service.common.files import write_whole
 
 CALLER = re.compile(r'[A-Z0-9-]{1,16}')
 REGISTRY = re.compile(r'0[1-9]|[1-9][0-9]')
@@ -160,18 +161,6 @@ def map_text(entries):
     return '\n'.join(['# Made by `callers` from the list. A change here is lost.', *lines, ''])
 
 
-def write(path, text):
-    """The file is there whole or not at all, and at no moment is it open to others."""
-    part = path.parent / f'.{path.name}.part'
-    part.unlink(missing_ok=True)
-    with open(os.open(part, os.O_WRONLY | os.O_CREAT | os.O_EXCL, 0o600), 'w', encoding='utf-8') as file:
-        file.write(text)
-        file.flush()
-        os.fchmod(file.fileno(), 0o640)
-        os.fsync(file.fileno())
-    os.replace(part, path)
-
-
 def make(asked):
     """Reads, checks and writes."""
     entries, listed = read_list(asked.list, asked.certificates)
@@ -185,7 +174,7 @@ def make(asked):
             print(remark, file=sys.stderr)
         entries = {user: entries.get(user, 'none') for user in kept}
     try:
-        write(asked.map, map_text(entries))
+        write_whole(asked.map, map_text(entries))
     except OSError as fault:
         raise Fault(f'{asked.map}: {fault.strerror}') from fault
     print(f'{asked.map}: {len(entries)} users')

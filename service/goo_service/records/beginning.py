@@ -6,11 +6,11 @@ had been empty would be a wrong one, so it is not made: what is to be done is to
 starts anew each minute and reads records.conf, so that the book is made once the beginning fits.
 """
 import argparse
-import http.client
 import json
 from dataclasses import dataclass
 from pathlib import Path
 
+from goo_service.common.client import NoAnswer
 from goo_service.log import entries
 from goo_service.records import door
 from goo_service.records.book import Mismatch
@@ -96,7 +96,7 @@ def lacks_account(socket: str, number: int, entry: int) -> bool | None:
     """
     try:
         told = door.asked(socket, f'/v1/accounts/{number}/statement', PATIENCE)
-    except (OSError, ValueError, http.client.HTTPException):
+    except NoAnswer:
         return None
     if told.status == 404:
         return False

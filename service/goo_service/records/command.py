@@ -25,6 +25,7 @@ import tempfile
 import threading
 import time
 
+from goo_service.common.files import write_whole
 from goo_service.log import entries
 from goo_service.records.beginning import AGAIN, first_entry, lacks_account, last_number, place_of
 from goo_service.records.book import Book, Mismatch, WatchedRegistry, opened
@@ -163,14 +164,7 @@ def written(given, folder, path):
 def make_key(path):
     """The key of check codes. Documents that were printed are checked with it, so it is made once and kept. It is there whole or not at all: anybody could make the codes of an empty one."""
     if not path.exists():
-        part = path.with_name(f'.{path.name}.part')
-        part.unlink(missing_ok=True)
-        with os.fdopen(os.open(part, os.O_WRONLY | os.O_CREAT | os.O_EXCL, 0o640), 'w', encoding='ascii') as file:
-            file.write(f'{secrets.token_hex(32)}\n')
-            file.flush()
-            os.fsync(file.fileno())
-        part.replace(path)
-        entries.sync_folder(path.parent)
+        write_whole(path, f'{secrets.token_hex(32)}\n')
 
 
 # ------------------------------------------------------------------ checking

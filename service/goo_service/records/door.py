@@ -1,9 +1,10 @@
 """Questions to the registry through its door, as the issuing body asks them."""
-import http.client
-import socket
 from typing import NamedTuple
 
-from goo_service.common.rules import ISSUER
+from goo_service.common.client import Client
+
+LARGEST = 1 << 30
+"""Bytes of a statement or an audit."""
 
 
 class Told(NamedTuple):
@@ -14,24 +15,7 @@ class Told(NamedTuple):
     entry: int
 
 
-class Door(http.client.HTTPConnection):
-    """A connection to the door's socket."""
-
-    def __init__(self, path: str, patience: float) -> None:
-        super().__init__('localhost', timeout=patience)
-        self.path = path
-
-    def connect(self) -> None:
-        self.sock = socket.socket(socket.AF_UNIX)
-        self.sock.settimeout(self.timeout)
-        self.sock.connect(self.path)
-
-
 def asked(path: str, route: str, patience: float = 300) -> Told:
     """The registry's answer to a read."""
-    door = Door(path, patience)
-    door.request('GET', route, headers={'GOO-Caller': ISSUER})
-    answer = door.getresponse()
-    text = answer.read().decode()
-    door.close()
-    return Told(answer.status, text, int(answer.headers.get('GOO-Entry') or 0))
+    answer = Client(path, patience, LARGEST).get(route)
+    return Told(answer.status, answer.text, answer.entry)

@@ -1,11 +1,13 @@
 """Where a registry stands on a host, and how `goo-setup` and the modules beside it write files and run commands."""
 import getpass
-import os
 import pathlib
 import re
 import shutil
 import subprocess
 import sys
+
+from goo_service.common.files import write_whole
+from goo_service.common.owner import Owner
 
 ETC, SHARE, NGINX, SYSTEMD = map(pathlib.Path, ('/etc/goo', '/usr/share/goo/etc', '/etc/nginx', '/etc/systemd/system'))
 REGISTRY, LOG, BOOK, EXCHANGE, COPIES = map(pathlib.Path, ('/var/lib/goo', '/var/lib/goo-replica', '/var/lib/goo-records', '/var/lib/goo-exchange', '/var/backups/goo'))
@@ -78,16 +80,7 @@ def tell(what, was_done):
 
 def write(path, text, mode=0o644, owner='root', group='root'):
     """The file is there whole or not at all, and nobody else reads it meanwhile."""
-    part = path.with_name(f'.{path.name}.part')
-    path.parent.mkdir(parents=True, exist_ok=True)
-    part.unlink(missing_ok=True)
-    with open(os.open(part, os.O_WRONLY | os.O_CREAT | os.O_EXCL, 0o600), 'w', encoding='utf-8') as file:
-        file.write(text)
-        file.flush()
-        os.fsync(file.fileno())
-    shutil.chown(part, owner, group)
-    part.chmod(mode)
-    part.replace(path)
+    write_whole(path, text, mode, Owner.named(owner, group))
 
 
 def folder(path, mode, owner='root', group='root'):

@@ -1,7 +1,6 @@
 """What `goo-setup status` and `goo-setup doctor` tell: what runs on this host, what is wrong, and what to do about it."""
 import configparser
 import datetime
-import http.client
 import json
 import pathlib
 import re
@@ -11,6 +10,8 @@ import subprocess
 import tempfile
 import time
 
+from goo_service.common.client import Client
+from goo_service.common.client import NoAnswer
 from goo_service.setup.common import (CLOSED, COPIES, DATABASE, ETC, EXCHANGE, LARGEST, LOG, ON_ONE, REGISTRY, Refused, code_of_registry, is_active, leads, meta_of, read_as, says, units, word_of,
                           words_of_log)
 
@@ -28,27 +29,12 @@ PATIENCE = 180
 """Seconds for the registry to take requests, on a host that is busy."""
 
 
-class Connection(http.client.HTTPConnection):
-    """A connection to a socket of this host."""
-
-    def __init__(self, path):
-        super().__init__('localhost', timeout=10)
-        self.path = path
-
-    def connect(self):
-        self.sock = socket.socket(socket.AF_UNIX)
-        self.sock.settimeout(self.timeout)
-        self.sock.connect(self.path)
-
-
 def ask(path, route):
     """Status and text of an answer; None where there is none."""
     try:
-        connection = Connection(path)
-        connection.request('GET', route, headers={'GOO-Caller': 'ISSUER'})
-        answer = connection.getresponse()
-        return answer.status, answer.read(LARGEST).decode(errors='replace')
-    except (OSError, http.client.HTTPException):
+        answer = Client(path, 10, LARGEST).get(route)
+        return answer.status, answer.text
+    except NoAnswer:
         return None
 
 
