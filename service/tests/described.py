@@ -6,8 +6,8 @@ from dataclasses import dataclass
 from pathlib import Path
 from typing import Any
 
-import jsonschema
-import yaml
+import jsonschema  # type: ignore[import]
+import yaml  # type: ignore[import]
 from hypothesis import strategies
 
 DOCS = Path(__file__).resolve().parents[2] / 'docs'

@@ -262,7 +262,8 @@ class House:
     def places(self) -> list[tuple[str, str]]:
         """Each path of the units, and what stands for it here; the longest first."""
         named = {
-            '/usr/lib/goo': self.service / 'libexec', '/usr/bin/goo-': f'{commands(self.service)}/goo-',
+            '/usr/lib/goo': self.service / 'libexec',
+            '/usr/bin/goo-': f'{commands(self.service)}/goo-',
             '/usr/bin/goo': self.goo, '8470': self.registry_port,
             '/var/lib/goo/registry.db': self.db, '/var/lib/goo-replica': self.state,
             '/var/lib/goo-records': self.book, '/etc/goo/replica.key': self.key,

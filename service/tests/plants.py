@@ -11,7 +11,8 @@ class NotPlanted(Exception):
 
 def copied(folder: Path) -> Path:
     """A copy of service/ in a folder."""
-    return Path(shutil.copytree(SERVICE, folder / 'service', ignore=shutil.ignore_patterns('tests', '__pycache__')))
+    left_out = shutil.ignore_patterns('tests', '__pycache__')
+    return Path(shutil.copytree(SERVICE, folder / 'service', ignore=left_out))
 
 
 def plant(service: Path, file: str, right: str, wrong: str) -> None:

@@ -27,7 +27,7 @@ from loopback import Place
 
 
 def balanced(place: Place, port: int, without: str = '') -> str:
-    """service/etc/haproxy with ports of this machine. A place is the first host, nobody the others."""
+    """The balancer's file with ports of this machine: a place is the first host, nobody the rest."""
     text = (SERVICE / 'etc/haproxy/haproxy.cfg').read_text()
     for old, new in (
         ('bind :443', f'bind 127.0.0.1:{port}'),
