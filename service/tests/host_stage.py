@@ -7,7 +7,6 @@ are active. /usr/bin/goo is a stand-in that notes each time it opens the file.
 import base64
 import ctypes
 import os
-import re
 import select
 import shutil
 import struct
@@ -254,9 +253,3 @@ class Canary:
 
     def close(self) -> None:
         os.close(self.queue)
-
-
-def script_of(package: Path, name: str) -> str:
-    """A maintainer script of the package, as tools/package writes it."""
-    found = re.search(rf"(?ms)^    '{name}': '''(.*?)^''',$", package.read_text(encoding='utf-8'))
-    return found[1] if found else sys.exit(f'{package} has no {name}')

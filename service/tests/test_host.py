@@ -24,7 +24,6 @@ from host_stage import USERS
 from host_stage import Canary
 from host_stage import Done
 from host_stage import Stage
-from host_stage import script_of
 from service_commands import command
 
 TOP = Path(__file__).resolve().parents[2]
@@ -183,8 +182,6 @@ def registry(stage: Stage) -> Iterator[Stage]:
     """A registry of version 1.0.0 that runs behind its log."""
     stage.shell('setpriv --reuid=goo --regid=goo --clear-groups goo init --db /var/lib/goo/registry.db\n'
                 'goo-replica-log found\n'
-                'mkdir -p /etc/systemd/system/goo-door.socket.d\n'
-                'touch /etc/systemd/system/goo-door.socket.d/replica.conf\n'
                 f'systemctl start {" ".join(RUNS)}\n: > /run/stage/openings')
     door = stage.begin('/usr/bin/python3', '/usr/lib/stage/door.py')
     for _ in range(100):
@@ -207,7 +204,7 @@ def is_well(stage: Stage) -> bool:
 def unpack(stage: Stage, tables: int = 2, more: str = '') -> None:
     """What dpkg does with a new package up to its postinst."""
     for name in ('preinst', 'postinst'):
-        stage.put(f'/run/stage/{name}', script_of(TOP / 'tools/package', name), 0o755)
+        stage.put(f'/run/stage/{name}', (SERVICE / f'debian/goo.{name}').read_text(encoding='utf-8'), 0o755)
     done = stage.run('/run/stage/preinst', 'upgrade', '1.0.0')
     assert done.status == 0, done
     stage.program('1.1.0', tables, more)
@@ -383,7 +380,7 @@ AROUND_THE_LOG = (
     'goo-replica-log verify', 'goo-replica-log verify --from {COPY}', 'goo-replica-log compress', 'goo-replica-log found',
     'goo-replica-log version x', 'goo-replica-log first-copy', 'goo-replica-log place {COPY}', 'goo-replica-log copy',
     'env GOO_RECOUNT= goo-copies backup', 'goo-setup upgraded', 'goo-copies restore {COPY} --without-list --although-broken',
-    'goo-copies restore --open --unsettled', 'log-setup')
+    'goo-copies restore --open --unsettled')
 """What root carries out by the programs of the log and of the copies; the later ones change what runs."""
 ROOTS_FOLDERS = ('/run', '/run/goo', '/run/goo-front', '/var/lib', '/var/log/goo', '/var/backups/goo',
                  '/etc/goo', '/etc/goo/peers', '/etc/goo/tls', '/usr/lib/goo', '/run/goo-units')
@@ -430,7 +427,7 @@ END''',
 def privileged_lines() -> dict[str, str]:
     """The lines of units that systemd carries out as root, outside of what shuts a unit in."""
     found = {}
-    for path in (*SERVICE.glob('etc/systemd/*.service'), *SERVICE.glob('etc/drop-ins/*'), *SERVICE.glob('etc/etcd/*.service')):
+    for path in (*SERVICE.glob('etc/systemd/*.service'), *SERVICE.glob('etc/systemd/*.d/*'), *SERVICE.glob('etc/drop-ins/*')):
         for line in path.read_text(encoding='utf-8').splitlines():
             name, _, words = line.partition('=')
             if name.startswith('Exec') and '+' in words[:3]:
@@ -479,8 +476,6 @@ def test_root_follows_nothing_around_the_log(planted: Stage, kind: str) -> None:
     planted.shell(f'cd {COPY}; rm registry.db; sqlite3 registry.db "CREATE TABLE meta (version, code)"\n'
                   'echo ok > audit.txt\n'
                   'echo \'{"n": 3, "hash": "a", "chain": "b", "version": "c"}\' > place.json\n'
-                  'mkdir -p /etc/systemd/system/goo-door.socket.d\n'
-                  'touch /etc/systemd/system/goo-door.socket.d/replica.conf\n'
                   'systemctl start goo.service goo-replica.service')
     canary = plant(planted, kind)
     for words in AROUND_THE_LOG:
@@ -613,17 +608,25 @@ def test_what_services_wrote_reaches_no_terminal_as_it_is(capsys: pytest.Capture
 
 # ------------------------------------------------------------------ the units
 
-def lines_of(path: Path) -> dict[str, list[str]]:
+def drop_ins(unit: Path) -> list[Path]:
+    """The files that systemd reads after a unit, in their order."""
+    folders = [unit.with_name(f'{unit.name}.d')]
+    if unit.name.startswith('goo-'):
+        folders.append(unit.with_name(f'goo-{unit.suffix}.d'))
+    return sorted((path for folder in folders for path in folder.glob('*.conf')), key=lambda path: path.name)
+
+
+def lines_of(unit: Path) -> dict[str, list[str]]:
     """The lines of a unit by their names; an empty value takes back those before it."""
     found: dict[str, list[str]] = {}
-    for line in path.read_text(encoding='utf-8').splitlines():
+    for line in ''.join(path.read_text(encoding='utf-8') for path in (unit, *drop_ins(unit))).splitlines():
         name, equals, value = line.partition('=')
         if equals and not line.startswith('#'):
             found[name] = [*found.get(name, []), value] if value else []
     return found
 
 
-UNITS = {path.name: lines_of(path) for path in (*SERVICE.glob('etc/systemd/*'), SERVICE / 'etc/etcd/goo-etcd.service')}
+UNITS = {path.name: lines_of(path) for path in SERVICE.glob('etc/systemd/*') if path.is_file()}
 SERVICES = {name: lines for name, lines in UNITS.items() if name.endswith('.service')}
 ONE_EACH = {name.replace('.socket', '@.service') for name, lines in UNITS.items() if lines.get('Accept') == ['yes']}
 """Services of one connection each: whoever has connected is told of a failure."""

@@ -577,10 +577,10 @@ def unit(name):
 
 def one_way(tally):
     """The registry's port is in a network of its own, and one socket leads there. The trial's users stand for those that aren't here."""
-    socket_unit, door, registry = unit('goo-door.socket'), unit('goo-door.service'), unit('goo.service')
+    socket_unit, door, registry = unit('goo-door.socket'), unit('goo-registry.service'), unit('goo.service')
     port = re.search(r'--port (\d+)', registry['ExecStart'])[1]
     tally.check('the registry and the way to it are in one network of their own, whichever of them starts first',
-                tuple(of.get(line) for line in ('PrivateNetwork', 'JoinsNamespaceOf') for of in (registry, door)) == ('yes', 'yes', 'goo-door.service', 'goo.service')
+                tuple(of.get(line) for line in ('PrivateNetwork', 'JoinsNamespaceOf') for of in (registry, door)) == ('yes', 'yes', 'goo-registry.service', 'goo.service')
                 and door['ExecStart'].endswith(f' 127.0.0.1:{port}'), (registry, door))
     tally.check('nginx takes that way', f"unix:{socket_unit['ListenStream']};" in (HOME / 'service/etc/nginx/goo.conf').read_text(), socket_unit)
     if os.geteuid() or subprocess.run(['unshare', '-n', 'true'], capture_output=True).returncode or not os.path.exists('/lib/systemd/systemd-socket-proxyd'):

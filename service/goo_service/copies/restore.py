@@ -53,12 +53,12 @@ COPIES, REGISTRY, EXCHANGE, CONFIGURATION = map(pathlib.Path, ('/var/backups/goo
 CLOSED = pathlib.Path('/etc/systemd/system/goo-door.socket.d/closed.conf')
 SOCKET = '/run/goo/door.sock'
 TIMERS = ('goo-advance.timer', 'goo-backup.timer', 'goo-exchange.timer')
-LOG, LOGGED = pathlib.Path('/var/lib/goo-replica/place'), pathlib.Path('/etc/systemd/system/goo-door.socket.d/replica.conf')
+LOG = pathlib.Path('/var/lib/goo-replica/place')
 REPLICA = 'goo-replica.service'
 RUNS = ('goo-advance.service', 'goo-backup.service', 'goo-exchange.service')
 STATE, KEY, WORDS = pathlib.Path('/var/lib/goo-replica'), pathlib.Path('/etc/goo/replica.key'), pathlib.Path('/etc/goo/replica.env')
 RECORDS = 'goo-records.service'
-DOOR = ('goo-door.socket', 'goo-door.service')
+DOOR = ('goo-door.socket',)
 FILES = ('registry.db', 'registry.db-wal', 'registry.db-journal')
 PATIENCE = 600
 """Seconds in which a registry that was started has to answer."""
@@ -118,7 +118,7 @@ def stop_all(ran):
 
 def has_log():
     """Whether whoever connects comes to the log first."""
-    return LOG.exists() and LOGGED.exists()
+    return LOG.exists()
 
 
 def start_as_before(ran, was_closed):

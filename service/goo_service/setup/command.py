@@ -36,8 +36,7 @@ from goo_service.setup.common import (BOOK, CLOSED, COPIES, DATABASE, ETC, LED, 
 from goo_service.setup.report import doctor, status, wait_for_registry
 from goo_service.setup.upgrade import renew, upgraded
 
-LINKS = {'nginx/main.conf': NGINX / 'modules-enabled/90-goo.conf', 'nginx/nginx.service.conf': SYSTEMD / 'nginx.service.d/goo.conf',
-         **{f'drop-ins/{unit}.conf': SYSTEMD / f'{unit}.d/replica.conf' for unit in ('goo.service', 'goo-door.socket', 'goo-backup.service')}}
+LINKS = {'nginx/main.conf': NGINX / 'modules-enabled/90-goo.conf', 'nginx/nginx.service.conf': SYSTEMD / 'nginx.service.d/goo.conf'}
 """Files of the package that are linked, so that a new package brings new ones."""
 BEGUN = '# How the book of acts begins (RECORDS.md)\nGOO_RECORDS_BEGIN=--begun {}\n'
 CONNECTIONS = 16384

@@ -26,7 +26,7 @@ NEWER = ('goo-records-verify.socket', 'goo-units.timer', 'goo-doctor.timer')
 """What a registry of an earlier version has not: the new version starts it."""
 ON_ONE, LEADER = 'goo-advance.timer', 'h1'
 """What runs on one of three hosts alone, and on which."""
-LED = ('goo-door.socket', 'goo-door.service', 'goo-replica.service', 'goo.service')
+LED = ('goo-door.socket', 'goo-replica.service', 'goo.service')
 """What is stopped before the registry's file or its log is changed. With the socket, since a request would start the others again."""
 
 

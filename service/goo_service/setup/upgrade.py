@@ -22,7 +22,6 @@ from goo_service.setup.common import LED
 from goo_service.setup.common import LOG
 from goo_service.setup.common import NEWER
 from goo_service.setup.common import REPLICA
-from goo_service.setup.common import SYSTEMD
 from goo_service.setup.common import Refused
 from goo_service.setup.common import as_user
 from goo_service.setup.common import goo
@@ -38,8 +37,6 @@ from goo_service.setup.report import wait_for_registry
 PROGRAM, BEFORE, REFUSED = map(pathlib.Path, ('/usr/bin/goo', '/usr/lib/goo/goo.before',
                                               '/usr/lib/goo/goo.refused'))
 """The program; the one of before, kept by the package's preinst; a new one that did not take over."""
-LOGGED = SYSTEMD / 'goo-door.socket.d/replica.conf'
-"""There where whoever connects comes to the log first."""
 RAN = pathlib.Path('/run/goo-upgrade')
 """Which units ran, from before the first one is stopped until all run again."""
 OPENS_AGAIN = pathlib.Path('/run/goo/begins-again')
@@ -68,7 +65,7 @@ def upgraded(given: argparse.Namespace) -> int:
         return 0
     if REFUSED.exists():        # an earlier try went back to the program of before
         REFUSED.replace(PROGRAM)
-    has_log, waits = LOGGED.exists() and (LOG / 'place').exists(), was_well()
+    has_log, waits = (LOG / 'place').exists(), was_well()
     try:
         begin_version(has_log, waits)
     except BaseException as fault:
@@ -131,8 +128,7 @@ def begin_others() -> None:
 def running() -> list[str]:
     """What runs, and what ran as an earlier call began that was cut off."""
     noted = RAN.read_text(encoding='ascii').split() if RAN.exists() else []
-    known = (*units(), 'goo-door.service')
-    active = [unit for unit in known if says('systemctl', 'is-active', unit) in
+    active = [unit for unit in units() if says('systemctl', 'is-active', unit) in
               ('active', 'activating', 'reloading')]
     return list(dict.fromkeys([*noted, *active]))
 
