@@ -9,18 +9,22 @@ The answers are those of tools/lib/model.py, which was written from the document
 with the program. So books are made and asked within milliseconds, and no process runs.
 """
 import json
+import sqlite3
 from pathlib import Path
 from typing import Any
 
 from goo_service.log import entries
-from goo_service.records import book
+from goo_service.records import schema
 from goo_service.records import web
+from goo_service.records.book import Book
+from goo_service.records.registry import WatchedRegistry
 from model import CODES
 from model import Model
 from goo_service.common.rules import ISSUER
 
 CODE = 7
 DAY = '2026-01-15'
+BEGINNING = f'--begun {CODE} {DAY} 1'
 OWN = CODE * 10 ** 12
 HEADER = b'key,device,first_day,last_day,gross_wh,aux_wh\n'
 BAD, FORBIDDEN, CONFLICT = 400, 403, 409
@@ -42,8 +46,8 @@ class Made:
         self.keys = self.last = 0
         self.chain = entries.NO_CHAIN
         self.path = folder / 'book-1.db'
-        registry = book.WatchedRegistry(CODE, day, 1)
-        self.writer = book.Book.make(self.path.with_suffix('.making'), registry)
+        registry = WatchedRegistry(CODE, day, 1)
+        self.writer = Book.make(self.path.with_suffix('.making'), registry, BEGINNING)
         self.is_open = False
         (folder / 'code.key').write_text('00' * 32)
 
@@ -63,7 +67,7 @@ class Made:
 
     def take(self, record: entries.Record) -> None:
         """Gives a record to the book, as `records follow` does."""
-        self.writer.take(record)
+        self.writer.apply(record)
         self.writer.commit(record.entry.n, record.hash, record.entry.time)
 
     def send_body(self, caller: str, body: bytes) -> dict[str, Any]:
@@ -104,14 +108,13 @@ class Made:
 
     # ------------------------------------------------------------ the book
 
-    def book(self) -> book.sqlite3.Connection:
+    def book(self) -> sqlite3.Connection:
         """A connection to the book as it stands, ready for readers."""
         if not self.is_open:
-            self.writer.open(self.path)
+            self.writer.publish(self.path)
             (self.folder / 'current').symlink_to(self.path.name)
             self.is_open = True
-        database = book.connected(self.path, read_only=True)
-        return database
+        return schema.connect(self.path, read_only=True)
 
     def size(self) -> int:
         """Bytes of the book on the disk, after what waits beside it was written into it."""

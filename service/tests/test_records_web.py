@@ -6,7 +6,7 @@ from pathlib import Path
 from typing import Any
 
 import pytest
-from goo_service.records import command
+from goo_service.records import follow
 from goo_service.records import parameters
 from goo_service.records import web
 from made_book import Made
@@ -155,7 +155,7 @@ def test_a_statement_ends_when_its_time_is_over(made: Made, monkeypatch: Any) ->
     """One statement that would run for a minute is ended within its second."""
     endless = ('WITH RECURSIVE n(i) AS (SELECT 1 UNION ALL SELECT i + 1 FROM n LIMIT 90000000) '
                'SELECT max(i) FROM n')
-    monkeypatch.setattr(web.answers, 'standing', lambda database: database.execute(endless))
+    monkeypatch.setattr(web, 'standing', lambda database: database.execute(endless))
     begun = time.monotonic()
     answer = slow_client(made, question=0.3).get('/records/v1/status', headers=HEAD)
     assert answer.status_code == 503
@@ -201,11 +201,11 @@ def test_a_key_that_a_crash_left_empty_makes_no_codes(made: Made) -> None:
 def test_a_key_is_made_whole_and_once(tmp_path: Path) -> None:
     path = tmp_path / 'code.key'
     (tmp_path / '.code.key.part').write_text('what a crash left')
-    command.make_key(path)
+    follow.make_key(path)
     key = path.read_text()
     assert len(key) == web.KEY + 1
     assert path.stat().st_mode & 0o777 == 0o640
-    command.make_key(path)
+    follow.make_key(path)
     assert path.read_text() == key
     assert [found.name for found in tmp_path.iterdir()] == ['code.key']
 

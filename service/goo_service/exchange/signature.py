@@ -1,50 +1,57 @@
-"""Signatures of notices and states: Ed25519 by openssl, in base64. A public key is the base64 of its DER, one line."""
+"""Signatures of notices and states: Ed25519, in base64 with a line end.
+
+A public key is the base64 of its DER on one line, as `openssl pkey -pubout` writes it between the
+first and the last line.
+"""
 import base64
-import binascii
-import pathlib
-import subprocess
-import tempfile
+from pathlib import Path
 
-from goo_service.exchange.common import Again
-
-
-def openssl(*words):
-    try:
-        return subprocess.run(['openssl', *words], capture_output=True, timeout=30)
-    except (OSError, subprocess.TimeoutExpired) as fault:
-        raise Again(f'openssl cannot be run: {fault}') from fault
+from cryptography.exceptions import InvalidSignature
+from cryptography.exceptions import UnsupportedAlgorithm
+from cryptography.hazmat.primitives.asymmetric.ed25519 import Ed25519PrivateKey
+from cryptography.hazmat.primitives.asymmetric.ed25519 import Ed25519PublicKey
+from cryptography.hazmat.primitives.serialization import Encoding
+from cryptography.hazmat.primitives.serialization import PublicFormat
+from cryptography.hazmat.primitives.serialization import load_der_public_key
+from cryptography.hazmat.primitives.serialization import load_pem_private_key
 
 
 class Key:
-    """Our own key, with which all that we publish is signed."""
+    """Our own key, by which all that we publish is signed. ValueError where its file has none."""
 
-    def __init__(self, path):
-        self.path = str(path)
-        shown = openssl('pkey', '-in', self.path, '-pubout', '-outform', 'DER')
-        if shown.returncode:
-            raise ValueError(f'key {path} cannot be read; make one: openssl genpkey -algorithm ed25519 -out {path}')
-        self.public = base64.b64encode(shown.stdout).decode()
+    def __init__(self, path: Path) -> None:
+        self.private = read_private(path)
+        der = self.private.public_key().public_bytes(Encoding.DER, PublicFormat.SubjectPublicKeyInfo)
+        self.public = base64.b64encode(der).decode()
 
-    def sign(self, text):
-        with tempfile.NamedTemporaryFile() as file:
-            file.write(text.encode())
-            file.flush()
-            signed = openssl('pkeyutl', '-sign', '-rawin', '-inkey', self.path, '-in', file.name)
-        if signed.returncode:
-            raise Again(f"openssl cannot sign by {self.path}: {signed.stderr.decode(errors='replace').strip()[:200]}")
-        return base64.b64encode(signed.stdout).decode() + '\n'
+    def signature(self, text: str) -> str:
+        """The signature of a text, as it stands in the file beside it."""
+        return base64.b64encode(self.private.sign(text.encode())).decode() + '\n'
 
 
-def is_signed(text, signature, public):
+def read_private(path: Path) -> Ed25519PrivateKey:
+    """The private key in a file."""
+    advice = f'make one: openssl genpkey -algorithm ed25519 -out {path}'
+    try:
+        key = load_pem_private_key(path.read_bytes(), None)
+    except (OSError, ValueError, TypeError, UnsupportedAlgorithm) as fault:
+        raise ValueError(f'key {path} cannot be read; {advice}') from fault
+    if not isinstance(key, Ed25519PrivateKey):
+        raise ValueError(f'key {path} is no Ed25519 key; {advice}')
+    return key
+
+
+def is_signed(text: str, signature: str, public: str) -> bool:
     """Whether the owner of this public key has signed this text."""
     try:
+        key = load_der_public_key(base64.b64decode(public, validate=True))
         raw = base64.b64decode(signature.strip(), validate=True)
-    except (ValueError, binascii.Error):
+    except (ValueError, UnsupportedAlgorithm):
         return False
-    with tempfile.TemporaryDirectory() as folder:
-        files = {name: str(pathlib.Path(folder, name)) for name in ('key', 'text', 'signature')}
-        pathlib.Path(files['key']).write_text(f'-----BEGIN PUBLIC KEY-----\n{public}\n-----END PUBLIC KEY-----\n')
-        pathlib.Path(files['text']).write_bytes(text.encode())
-        pathlib.Path(files['signature']).write_bytes(raw)
-        judged = openssl('pkeyutl', '-verify', '-rawin', '-pubin', '-inkey', files['key'], '-in', files['text'], '-sigfile', files['signature'])
-    return judged.returncode == 0
+    if not isinstance(key, Ed25519PublicKey):
+        return False
+    try:
+        key.verify(raw, text.encode())
+    except InvalidSignature:
+        return False
+    return True

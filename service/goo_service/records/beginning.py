@@ -10,10 +10,10 @@ import json
 from dataclasses import dataclass
 from pathlib import Path
 
+from goo_service.common.client import Client
 from goo_service.common.client import NoAnswer
 from goo_service.log import entries
-from goo_service.records import door
-from goo_service.records.book import Mismatch
+from goo_service.records.schema import Mismatch
 
 CONF = '/etc/goo/records.conf'
 AGAIN = (f'Where the registry had records before its log, {CONF} has to name the copy that was '
@@ -30,27 +30,31 @@ class Place:
     entry: int
     hash: str | None
     named: str
+    text: str
+    """The beginning as a book keeps it, to know by it whether it began so."""
 
 
 def place_of(given: argparse.Namespace) -> Place:
-    """The place that was asked for."""
+    """The place at which a book is to begin."""
     if not given.copy:
         if given.after:
             raise ValueError('--after belongs to --copy: a registry that begins is at entry 0')
-        return Place(0, None, '--begun')
-    told = told_by(Path(given.copy))
-    if given.after is not None and told and told.entry != given.after:
-        raise ValueError(f'{given.copy} was made at entry {told.entry}, and --after says '
+        return Place(0, None, '--begun', ' '.join(['--begun', *map(str, given.begun)]))
+    found = place_in(Path(given.copy))
+    if given.after is not None and found and found.entry != given.after:
+        raise ValueError(f'{given.copy} was made at entry {found.entry}, and --after says '
                          f'{given.after}: leave --after out')
-    return told or Place(given.after or 0, None, given.copy)
+    after = given.after or 0
+    return found or Place(after, None, given.copy, f'a copy of entry {after}')
 
 
-def told_by(copy: Path) -> Place | None:
+def place_in(copy: Path) -> Place | None:
     """The place that a copy tells. One that was made without a log tells none."""
     path = (copy if copy.is_dir() else copy.parent) / 'place.json'
     try:
-        said = json.loads(path.read_text(encoding='utf-8'))
-        return Place(int(said['n']), str(said['hash']), str(copy))
+        members = json.loads(path.read_text(encoding='utf-8'))
+        entry, digest = int(members['n']), str(members['hash'])
+        return Place(entry, digest, str(copy), f'a copy of entry {entry} with the hash {digest}')
     except FileNotFoundError:
         return None
     except PermissionError as fault:
@@ -60,7 +64,7 @@ def told_by(copy: Path) -> Place | None:
         raise ValueError(f'{path}: no place in it: {fault}') from fault
 
 
-def first_entry(archive: str, place: Place) -> None:
+def check_first_entry(archive: Path, place: Place) -> None:
     """Raises Mismatch unless the entries of an archive go on from a place."""
     try:
         record = next(entries.read_archive(archive, after=place.entry), None)
@@ -68,9 +72,9 @@ def first_entry(archive: str, place: Place) -> None:
         return                      # whoever reads on tells it with its place
     begins = next((number for path in entries.months(archive)
                    if (number := entries.first_number(path)) is not None), None)
-    wanted = place.entry + 1
-    if record is None and begins is not None and last_number(archive) < place.entry:
-        raise Mismatch(f'{archive} ends at entry {last_number(archive)}, and the book would begin '
+    wanted, last = place.entry + 1, last_number(archive)
+    if record is None and begins is not None and last < place.entry:
+        raise Mismatch(f'{archive} ends at entry {last}, and the book would begin '
                        f'after entry {place.entry}, by {place.named}')
     if record and record.entry.n != wanted:
         raise Mismatch(f'{archive} begins with entry {record.entry.n}, and the book would begin '
@@ -80,7 +84,7 @@ def first_entry(archive: str, place: Place) -> None:
                        f'{place.named} was made: the copy is of another log')
 
 
-def last_number(archive: str) -> int:
+def last_number(archive: Path) -> int:
     """The number of the last whole entry of an archive, 0 where there is none."""
     for path in reversed(entries.months(archive)):
         last = entries.last_of(path, entries.read_record)[0]
@@ -95,11 +99,11 @@ def lacks_account(socket: str, number: int, entry: int) -> bool | None:
     None where the registry does not tell, or has gone on since.
     """
     try:
-        told = door.asked(socket, f'/v1/accounts/{number}/statement', PATIENCE)
+        answer = Client(socket, PATIENCE).get(f'/v1/accounts/{number}/statement')
     except NoAnswer:
         return None
-    if told.status == 404:
+    if answer.status == 404:
         return False
-    if told.status != 200 or told.entry != entry:
+    if answer.status != 200 or answer.entry != entry:
         return None
     raise Mismatch(f'entry {entry}: account {number} is in the registry and in no entry of the log')

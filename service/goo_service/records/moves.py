@@ -16,7 +16,17 @@ FEW = 3
 """Lots up to which each is a row of its own."""
 
 
-@dataclass(frozen=True)
+@dataclass(frozen=True, slots=True)
+class Way:
+    """Place and account after an act, and before it."""
+
+    kind: int
+    account: int
+    from_kind: int | None
+    from_account: int | None
+
+
+@dataclass(frozen=True, slots=True)
 class Part:
     """Certificates of one lot, or of all lots from one to another, that went the same way."""
 
@@ -26,8 +36,7 @@ class Part:
     to_lot: int
     is_own: bool
     """Whether this registry issued them, so that their lots are in the order of their numbers."""
-    way: tuple[int, int, int | None, int | None]
-    """Place and account after the act, place and account before it."""
+    way: Way
 
 
 def follows(before: Part, after: Part) -> bool:

@@ -3,13 +3,14 @@
 A parameter that was passed over because of a slip would answer another question than the one that
 was asked, and a program would act on the answer.
 """
+from collections.abc import Iterator
 from typing import Protocol
 
-from goo_service.records.answers import ACT_FILTERS
-from goo_service.records.answers import BadQuestion
-from goo_service.records.answers import FILTERS
-from goo_service.records.answers import LISTS
-from goo_service.records.answers import LOT_FILTERS
+from goo_service.records.acts import ACT_FILTERS
+from goo_service.records.certificates import LOT_FILTERS
+from goo_service.records.lists import FILTERS
+from goo_service.records.lists import LISTS
+from goo_service.records.questions import BadQuestion
 
 PAGE = ('limit', 'offset', 'format')
 HELD = ('account', 'q', 'tradable', *LOT_FILTERS)
@@ -35,20 +36,20 @@ PARAMETERS: dict[str, tuple[str, ...]] = {
 FORMATS = ('csv', 'json')
 
 
-class Given(Protocol):
+class Query(Protocol):
     """What Flask gives of a query: each name with its values in their order."""
 
-    def lists(self) -> list[tuple[str, list[str]]]:
+    def lists(self) -> Iterator[tuple[str, list[str]]]:
         """The names and their values."""
 
 
-def parameters_of(route: str, given: Given) -> dict[str, str]:
+def parameters_of(route: str, given: Query) -> dict[str, str]:
     """The parameters that were given, once each, or the error that names one that cannot be."""
-    taken, found = PARAMETERS[route], {}
+    known, found = PARAMETERS[route], {}
     for name, values in given.lists():
-        if name not in taken:
-            known = f'it takes {", ".join(taken)}' if taken else 'it takes none'
-            raise BadQuestion(f'{route} has no parameter {name!r}: {known}')
+        if name not in known:
+            others = f'it takes {", ".join(known)}' if known else 'it takes none'
+            raise BadQuestion(f'{route} has no parameter {name!r}: {others}')
         if len(values) > 1:
             raise BadQuestion(f'{name} is given {len(values)} times')
         found[name] = values[0]

@@ -66,8 +66,8 @@ class Together:
     kinds: dict[tuple[str, str | None], Same] = field(default_factory=dict)
     refused: int = 0
 
-    def takes(self, row: Row) -> bool:
-        """Whether a row is told with others. It is counted here then."""
+    def add(self, row: Row) -> bool:
+        """Whether a row is told with others, among which it is counted then."""
         if row.outcome == 'refused':
             self.refused += 1
             is_own = self.caller == ISSUER and self.refused <= OWN_ACTS

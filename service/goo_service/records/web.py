@@ -1,7 +1,10 @@
-"""The records of acts over HTTP, for the page and for programs: read-only, behind the front door. docs/RECORDS.md has the routes.
+"""The records of acts over HTTP, for the page and for programs: read-only, behind the front door.
+docs/RECORDS.md has the routes.
 
-gunicorn runs `application()`. The front door says who asks by GOO-Caller, as it says it to the registry, and nothing else reaches this service's socket.
-GOO_RECORDS names the folder with the book and the key of check codes, GOO_EXCHANGE the file in which the exchange tells what became of notices.
+gunicorn runs `application()`. The front door names the caller by GOO-Caller, as it does for the
+registry, and nothing else reaches this service's socket. GOO_RECORDS names the folder with the book
+and the key of check codes, GOO_EXCHANGE the file in which the exchange writes what became of
+notices.
 """
 import functools
 import itertools
@@ -12,29 +15,63 @@ import sqlite3
 import sys
 import threading
 import time
-from collections import namedtuple
+from collections.abc import Callable
+from collections.abc import Iterator
+from dataclasses import dataclass
 from pathlib import Path
+from typing import Any
 
-from flask import Flask, Response, request
+from flask import Flask
+from flask import Response
+from flask import request
 
-from goo_service.records import answers
-from goo_service.records.answers import BadQuestion, Listed, NotFound, TooFew, Viewer
-from goo_service.records.book import Mismatch, opened
-from goo_service.records.files import csv_of, presented
+from goo_service.common.rules import ISSUER
+from goo_service.common.rules import PLACES
+from goo_service.records import acts
+from goo_service.records import certificates
+from goo_service.records import documents
+from goo_service.records import lists
+from goo_service.records.files import csv_of
+from goo_service.records.files import presented
 from goo_service.records.parameters import parameters_of
-from goo_service.common.rules import ISSUER, PLACES
+from goo_service.records.questions import BadQuestion
+from goo_service.records.questions import Given
+from goo_service.records.questions import Listed
+from goo_service.records.questions import NotFound
+from goo_service.records.questions import Row
+from goo_service.records.questions import TooFew
+from goo_service.records.questions import Viewer
+from goo_service.records.questions import standing
+from goo_service.records.schema import Mismatch
+from goo_service.records.schema import read_moment
 
-FOLDER, EXCHANGE = Path('/var/lib/goo-records'), Path('/var/lib/goo-records/exchange.json')
-PAGES = (Path(__file__).resolve().parents[3] / 'docs/records.yaml', Path('/usr/share/goo/api/records.yaml'))
+FOLDER = Path('/var/lib/goo-records')
+EXCHANGE = FOLDER / 'exchange.json'
+PAGES = (Path(__file__).resolve().parents[3] / 'docs/records.yaml',
+         Path('/usr/share/goo/api/records.yaml'))
 CALLER = re.compile(r'[A-Z0-9][A-Z0-9_-]{0,15}')
 HEADERS = {'Cache-Control': 'no-store', 'X-Content-Type-Options': 'nosniff'}
-Limits = namedtuple('Limits', 'question file files', defaults=(10, 60, 2))
-"""The most seconds of an answer and of a file, and how many files one process writes at once: half of its threads, so that the other half is there for questions."""
 STEPS = 10_000
 """Steps of SQLite after which it is looked whether the time is over."""
 BUSY = {'Retry-After': '10'}
 KEY = 64
 """Bytes of the key of check codes."""
+STATUSES = {BadQuestion: 400, NotFound: 404, TooFew: 409}
+FateKey = tuple[int, int, int]
+"""A notice: 1 where it was sent and 0 where it came, the other registry, its number."""
+
+
+@dataclass(frozen=True)
+class Limits:
+    """The most seconds of an answer and of a file, and how many files one process writes at once:
+    half of its threads, so that the other half is there for questions."""
+
+    question: float = 10
+    file: float = 60
+    files: int = 2
+
+
+LIMITS = Limits()
 
 
 class TooLong(Exception):
@@ -45,114 +82,158 @@ class Busy(Exception):
     """As many files as may be are being written."""
 
 
-def reply(status, value, **fields):
-    return Response(json.dumps(presented(value), ensure_ascii=False, separators=(',', ':')) + '\n', status, {**HEADERS, **fields}, content_type='application/json')
+FAULTS = (TooLong, Busy, OSError, sqlite3.DatabaseError, *STATUSES)
+"""What an answer can come to instead."""
 
 
 class Timed(sqlite3.Connection):
-    """A connection for one answer. No statement is begun once its time is over, and one that runs is ended."""
+    """A connection for one answer. No statement is begun once its time is over, and one that runs
+    is ended."""
+
     end = float('inf')
 
-    def until(self, end):
+    def set_end(self, end: float) -> None:
         self.end = end
         self.set_progress_handler(self.is_late, STEPS)
 
-    def is_late(self):
+    def is_late(self) -> bool:
         return time.monotonic() > self.end
 
-    def execute(self, *words):
+    def execute(self, *words: Any) -> sqlite3.Cursor:
         if self.is_late():
             raise TooLong
         return super().execute(*words)
 
 
-class Service:
-    """What a route needs: the book that is the present one, the key of check codes, and what the exchange tells."""
+ListOf = Callable[[sqlite3.Connection, Viewer, Given], Listed]
+OneOf = Callable[[sqlite3.Connection, Viewer, int], Row]
+OtherOf = Callable[[sqlite3.Connection, Viewer, Given], Row]
+Answer = Response | Listed | Row
 
-    def __init__(self, folder, exchange, limits=Limits()):
+
+def reply(status: int, value: object, **fields: str) -> Response:
+    """An answer in JSON."""
+    text = json.dumps(presented(value), ensure_ascii=False, separators=(',', ':'))
+    return Response(f'{text}\n', status, {**HEADERS, **fields}, content_type='application/json')
+
+
+def viewer_of_request() -> Viewer | None:
+    """Who looks; None where the front door does not say."""
+    callers = request.headers.getlist('GOO-Caller')
+    is_known = len(callers) == 1 and (callers[0] == ISSUER or CALLER.fullmatch(callers[0]))
+    return Viewer(callers[0]) if is_known else None
+
+
+def with_viewer(viewer: Viewer, answer: Callable[[sqlite3.Connection, Viewer, Given], Answer],
+                database: sqlite3.Connection, given: Given) -> Answer:
+    return answer(database, viewer, given)
+
+
+class Service:
+    """What a route needs: the present book, the key of check codes, and what the exchange wrote."""
+
+    def __init__(self, folder: Path, exchange: Path, limits: Limits = LIMITS) -> None:
         self.folder, self.exchange, self.limits = folder, exchange, limits
         self.files = threading.BoundedSemaphore(limits.files)
+        self.lists: dict[str, ListOf] = {
+            'acts': acts.acts, 'holdings': certificates.holdings,
+            'deadlines': certificates.deadlines, 'choice': certificates.choice,
+            'holders': lists.holders, 'withdrawals': lists.withdrawals,
+            'statistics': lists.statistics,
+            **{name: functools.partial(lists.listed, name) for name in lists.LISTS},
+            'notices': self.notices}
+        self.ones: dict[str, OneOf] = {
+            'acts': acts.act, 'certificates': certificates.certificate,
+            'cancellations': self.cancellation}
+        self.others: dict[str, OtherOf] = {'status': status, 'documents': self.documents}
 
     @functools.cached_property
-    def key(self):
+    def key(self) -> bytes:
         path = self.folder / 'code.key'
         key = path.read_bytes().strip()
         if len(key) < KEY:
             raise OSError(f'{path} has {len(key)} bytes, and a key of check codes has {KEY}')
         return key
 
-    def book(self, end):
+    def book(self, end: float) -> Timed:
         """One moment of the present book, for one answer that has time until then."""
-        database = opened(self.folder / 'current', Timed)
+        database = read_moment(self.folder / 'current', Timed)
+        assert isinstance(database, Timed)
         database.create_function('PLACE', 1, PLACES.get, deterministic=True)
-        database.until(end)
+        database.set_end(end)
         return database
 
-    def viewer(self):
-        """Who asks; None where the front door does not say."""
-        caller = request.headers.getlist('GOO-Caller')
-        return Viewer(caller[0]) if len(caller) == 1 and (caller[0] == ISSUER or CALLER.fullmatch(caller[0])) else None
+    # ---------------------------------------------------------------- answers
 
-    def answered(self, name, ask):
-        """The answer to a question over the present book, or the error that it came to."""
-        viewer = self.viewer()
+    def for_viewer(self, name: str,
+                   answer: Callable[[sqlite3.Connection, Viewer, Given], Answer]) -> Response:
+        """The answer of a route to whoever is signed in, or the error that it came to."""
+        viewer = viewer_of_request()
         if viewer is None:
             return reply(403, {'error': 'nobody is signed in'})
-        return self.tried(name, lambda database, asked: ask(database, viewer, asked))
+        return self.for_anybody(name, functools.partial(with_viewer, viewer, answer))
 
-    def tried(self, name, ask):
-        """The answer of a route to what it was asked, or the error that it came to. Its book is closed once it is sent."""
+    def for_anybody(self, name: str,
+                    answer: Callable[[sqlite3.Connection, Given], Answer]) -> Response:
+        """The answer of a route, or the error that it came to. Its book is closed once it is
+        sent."""
         is_file = request.args.get('format') == 'csv'
         seconds = self.limits.file if is_file else self.limits.question
-        end = time.monotonic() + seconds
         try:
-            asked = parameters_of(name, request.args)
-            database = self.book(end)
+            given = parameters_of(name, request.args)
+            database = self.book(time.monotonic() + seconds)
         except BadQuestion as error:
             return reply(400, {'error': str(error)})
         except (sqlite3.Error, Mismatch, OSError):
             return reply(503, {'error': 'the records are being made'}, **BUSY)
         try:
-            answer = self.shown(ask(database, asked), database, name, is_file)
-        except (TooLong, Busy, OSError, sqlite3.DatabaseError, BadQuestion, NotFound, TooFew) as error:
-            answer = self.failed(error, database.is_late(), seconds)
+            response = self.response(answer(database, given), database, name, is_file)
+        except FAULTS as error:
+            response = self.failure(error, database.is_late(), seconds)
         except BaseException:
             database.close()
             raise
-        answer.call_on_close(database.close)
-        return answer
+        response.call_on_close(database.close)
+        return response
 
-    def failed(self, error, is_late, seconds):
+    def failure(self, error: Exception, is_late: bool, seconds: float) -> Response:
         """The answer where there is none."""
-        if isinstance(error, BadQuestion | NotFound | TooFew):
-            return reply({BadQuestion: 400, NotFound: 404, TooFew: 409}[type(error)], {'error': str(error)})
+        if status := STATUSES.get(type(error)):
+            return reply(status, {'error': str(error)})
         if isinstance(error, Busy):
-            return reply(503, {'error': 'other files are being written: ask again in some seconds'}, **BUSY)
+            text = 'other files are being written: ask again in some seconds'
+            return reply(503, {'error': text}, **BUSY)
         if is_late:
-            return reply(503, {'error': f'the answer takes longer than {seconds:g} s: ask for less, for example for one account, one kind of act or some days'}, **BUSY)
+            text = (f'the answer takes longer than {seconds:g} s: ask for less, for example for '
+                    'one account, one kind of act or some days')
+            return reply(503, {'error': text}, **BUSY)
         print(f'records: {self.folder / "current"}: {error}', file=sys.stderr, flush=True)
         return reply(503, {'error': 'the records cannot be read'})
 
-    def shown(self, answer, database, name, is_file):
+    def response(self, answer: Answer, database: sqlite3.Connection, name: str,
+                 is_file: bool) -> Response:
         """An answer as it is sent: JSON, or for a list a file."""
         if isinstance(answer, Response):
             return answer
         if not isinstance(answer, Listed):
-            return reply(200, {'stands': answers.standing(database), **answer})
+            return reply(200, {'stands': standing(database), **answer})
         if is_file:
-            return self.file(name, answer.columns, answer.rows)
+            return self.file(name, answer)
         found = list(answer.rows)
-        return reply(200, {'stands': answers.standing(database), 'items': found, **answer.beside(found)})
+        return reply(200, {'stands': standing(database), 'items': found, **answer.beside(found)})
 
-    def file(self, name, columns, rows):
-        """A list as a file, written as it is read. Where the time ends within, so does the connection, and the client has no whole answer."""
-        parts = self.one_of_few(csv_of(columns, rows))
+    def file(self, name: str, of: Listed) -> Response:
+        """A list as a file, written as it is read. Where the time ends within, so does the
+        connection, and the client has no whole answer."""
+        parts = self.one_of_few(csv_of(of.columns, of.rows))
         first = next(parts)         # what fails at once is told by its status
-        answer = Response(itertools.chain([first], parts), 200, {**HEADERS, 'Content-Disposition': f'attachment; filename="{name}.csv"'}, content_type='text/csv; charset=utf-8')
+        fields = {**HEADERS, 'Content-Disposition': f'attachment; filename="{name}.csv"'}
+        answer = Response(itertools.chain([first], parts), 200, fields,
+                          content_type='text/csv; charset=utf-8')
         answer.call_on_close(parts.close)
         return answer
 
-    def one_of_few(self, parts):
+    def one_of_few(self, parts: Iterator[bytes]) -> Any:
         """The same parts, while no more files are under way than may be."""
         if not self.files.acquire(blocking=False):
             raise Busy
@@ -161,92 +242,95 @@ class Service:
         finally:
             self.files.release()
 
-    # The routes. Each question has the book, who asks, and what he asks for.
+    # ---------------------------------------------------------------- routes with more than a book
 
-    @functools.cached_property
-    def lists(self):
-        """What may be saved as a file too."""
-        return {'acts': answers.acts, 'holdings': answers.holdings, 'deadlines': answers.deadlines, 'choice': answers.choice, 'holders': answers.holders, 'withdrawals': answers.withdrawals,
-                'statistics': answers.statistics, **{name: functools.partial(answers.listed, name) for name in answers.LISTS}, 'notices': self.notices}
+    def notices(self, database: sqlite3.Connection, viewer: Viewer, given: Given) -> Listed:
+        """Notices with what became of them, as far as the exchange wrote it; null where it did
+        not."""
+        fates = fates_in(self.exchange)
+        found = lists.listed('notices', database, viewer, given)
+        rows = ({**row, 'fate': fates.get((row['sent'], row['peer'], row['number']))}
+                for row in found.rows)
+        return Listed((*found.columns, 'fate'), rows, found.beside)
 
-    @functools.cached_property
-    def ones(self):
-        """What has a number."""
-        return {'acts': answers.act, 'certificates': answers.certificate, 'cancellations': self.cancellation}
+    def cancellation(self, database: sqlite3.Connection, viewer: Viewer, number: int) -> Row:
+        return documents.shown_document(database, viewer, number, self.key)
 
-    @functools.cached_property
-    def others(self):
-        return {'status': lambda database, viewer, asked: {'caller': viewer.caller}, 'documents': self.documents}
+    def documents(self, database: sqlite3.Connection, viewer: Viewer, given: Given) -> Row:
+        return documents.shown_documents(database, viewer, given, self.key)
 
-    def notices(self, database, viewer, asked):
-        """Notices with what became of them, as far as the exchange was told; null where it says nothing."""
-        fates, found = fates_in(self.exchange), answers.listed('notices', database, viewer, asked)
-        return Listed((*found.columns, 'fate'), ({**row, 'fate': fates.get((row['sent'], row['peer'], row['number']))} for row in found.rows), found.beside)
+    def verified(self) -> Response:
+        """The public check: whether number and code belong together."""
+        def answer(database: sqlite3.Connection, given: Given) -> Response:
+            found = documents.verified(database, given, self.key)
+            if found is None:
+                text = 'number and code do not belong together'
+                return reply(404, {'valid': False, 'error': text})
+            return reply(200, {'valid': True, **found})
 
-    def cancellation(self, database, viewer, number):
-        return answers.shown_document(database, viewer, number, self.key)
-
-    def documents(self, database, viewer, asked):
-        return answers.shown_documents(database, viewer, asked, self.key)
+        return self.for_anybody('verify', answer)
 
 
-def fates_in(path):
-    """What became of each notice, by direction, registry and number; nothing where the exchange has not told yet."""
+def status(_: sqlite3.Connection, viewer: Viewer, __: Given) -> Row:
+    """Who looks."""
+    return {'caller': viewer.caller}
+
+
+def fates_in(path: Path) -> dict[FateKey, str]:
+    """What became of each notice; nothing where the exchange has not written it yet."""
     try:
         peers = json.loads(path.read_text(encoding='utf-8'))['peers']
     except (OSError, ValueError, KeyError, TypeError):
         return {}
-    return {(direction, peer['registry'], of['number']): of['became'] for peer in peers for direction, name in ((1, 'sent'), (0, 'received')) for of in peer[name] if of['number']}
+    return {(direction, peer['registry'], of['number']): of['became'] for peer in peers
+            for direction, name in ((1, 'sent'), (0, 'received'))
+            for of in peer[name] if of['number']}
 
 
-def described():
+def description() -> Response:
     """The description of the routes."""
     try:
         parameters_of('openapi.yaml', request.args)
     except BadQuestion as error:
         return reply(400, {'error': str(error)})
     page = next((page for page in PAGES if page.is_file()), None)
-    return Response(page.read_bytes(), 200, HEADERS, content_type='application/yaml') if page else reply(404, {'error': 'there is no description here'})
+    if page is None:
+        return reply(404, {'error': 'there is no description here'})
+    return Response(page.read_bytes(), 200, HEADERS, content_type='application/yaml')
 
 
-def checked(service):
-    """The public check: whether number and code belong together."""
-    def ask(database, asked):
-        found = answers.verified(database, asked, service.key)
-        return reply(200, {'valid': True, **found}) if found else reply(404, {'valid': False, 'error': 'number and code do not belong together'})
-
-    return service.tried('verify', ask)
-
-
-def application(folder=None, exchange=None, limits=Limits()):
+def application(folder: Path | None = None, exchange: Path | None = None,
+                limits: Limits = LIMITS) -> Flask:
     """The service as a WSGI application."""
-    service = Service(Path(folder or os.environ.get('GOO_RECORDS', FOLDER)), Path(exchange or os.environ.get('GOO_EXCHANGE', EXCHANGE)), limits)
+    service = Service(folder or Path(os.environ.get('GOO_RECORDS', FOLDER)),
+                      exchange or Path(os.environ.get('GOO_EXCHANGE', EXCHANGE)), limits)
     app = Flask('goo-records', static_folder=None)
 
     @app.get('/records/v1/<name>')
-    def a_list(name):
-        ask = service.lists.get(name) or service.others.get(name)
-        if ask is None:
+    def a_list(name: str) -> Response:
+        answer = service.lists.get(name) or service.others.get(name)
+        if answer is None:
             return reply(404, {'error': f'there is no list {name}'})
-        return service.answered(name, ask)
+        return service.for_viewer(name, answer)
 
     @app.get('/records/v1/<name>/<int:number>')
-    def one(name, number):
+    def one(name: str, number: int) -> Response:
         if number >= 10 ** 15:
             return reply(404, {'error': f'there is no number {number}'})
         if name not in service.ones:
             return reply(404, {'error': f'there is no {name}'})
-        return service.answered(f'{name}/NUMBER', lambda database, viewer, asked: service.ones[name](database, viewer, number))
+        return service.for_viewer(f'{name}/NUMBER', lambda database, viewer, _:
+                                  service.ones[name](database, viewer, number))
 
-    app.get('/records/v1/openapi.yaml')(described)
-    app.get('/verify')(lambda: checked(service))
+    app.get('/records/v1/openapi.yaml')(description)
+    app.get('/verify')(service.verified)
 
     @app.errorhandler(404)
-    def missing(error):
+    def missing(_: Exception) -> Response:
         return reply(404, {'error': f'there is no {request.path}'})
 
     @app.errorhandler(405)
-    def not_allowed(error):
+    def not_allowed(_: Exception) -> Response:
         return reply(405, {'error': 'the records are only read'})
 
     return app

@@ -1,0 +1,138 @@
+"""The tables of the book of acts, and connections to a book."""
+import sqlite3
+from pathlib import Path
+
+from goo_service.common.rules import LOT
+from goo_service.common.rules import PLANT
+
+FORM = 5
+"""Of these tables. A book of another form is made anew, and nothing is read from it until then."""
+
+
+def columns_of(members: tuple[str, ...]) -> str:
+    """Columns of a lot or a plant."""
+    kinds = {'origin': 'INTEGER', 'capacity_w': 'INTEGER'}
+    return ', '.join(f'{member} {kinds.get(member, "TEXT")}' for member in members)
+
+
+TABLES = f'''
+CREATE TABLE meta (
+    id INTEGER PRIMARY KEY CHECK (id = 1), form INTEGER, beginning TEXT, code INTEGER, today TEXT,
+    entry INTEGER, hash TEXT, time TEXT, serial INTEGER, account INTEGER, cancellation INTEGER,
+    withdrawal INTEGER, notice INTEGER) STRICT;
+CREATE TABLE act (
+    id INTEGER PRIMARY KEY, entry INTEGER NOT NULL, line INTEGER NOT NULL, rows INTEGER NOT NULL,
+    lines TEXT, time TEXT, user TEXT, role TEXT, caller TEXT NOT NULL, day TEXT NOT NULL,
+    kind TEXT NOT NULL, outcome TEXT NOT NULL, refusal TEXT, key TEXT, holder TEXT, giver INTEGER,
+    taker INTEGER, device TEXT, peer INTEGER, number INTEGER, wh INTEGER, note TEXT) STRICT;
+CREATE INDEX act_by_key ON act (key);
+CREATE TABLE seen (viewer TEXT, act INTEGER, PRIMARY KEY (viewer, act)) STRICT, WITHOUT ROWID;
+CREATE TABLE touched (account INTEGER, act INTEGER, PRIMARY KEY (account, act))
+    STRICT, WITHOUT ROWID;
+CREATE TABLE moved (
+    id INTEGER PRIMARY KEY, act INTEGER, first INTEGER, last INTEGER, lot INTEGER, to_lot INTEGER,
+    kind INTEGER, account INTEGER, from_kind INTEGER, from_account INTEGER) STRICT;
+CREATE VIRTUAL TABLE passed USING rtree_i32 (id, first, last, lot, to_lot);
+CREATE TABLE lot (
+    id INTEGER PRIMARY KEY, {columns_of(LOT)}, trade_until TEXT, expires_on TEXT,
+    begin INTEGER, finish INTEGER, UNIQUE (origin, device, first_day)) STRICT;
+CREATE TABLE run (
+    first INTEGER PRIMARY KEY, last INTEGER NOT NULL, lot INTEGER NOT NULL, kind INTEGER NOT NULL,
+    account INTEGER NOT NULL, number INTEGER NOT NULL) STRICT;
+CREATE TABLE holder (code TEXT PRIMARY KEY, name TEXT NOT NULL, act INTEGER NOT NULL) STRICT;
+CREATE TABLE account (
+    number INTEGER PRIMARY KEY, holder TEXT NOT NULL, closed INTEGER NOT NULL,
+    act INTEGER NOT NULL) STRICT;
+CREATE INDEX account_by_holder ON account (holder);
+CREATE TABLE device (
+    gsrn TEXT PRIMARY KEY, account INTEGER, {columns_of(PLANT)}, carrier TEXT, last_day TEXT,
+    carry_wh INTEGER, declared_wh INTEGER, corrected_wh INTEGER, issued INTEGER,
+    withdrawn INTEGER, act INTEGER) STRICT;
+CREATE INDEX device_by_account ON device (account);
+CREATE TABLE declaration (
+    device TEXT, first_day TEXT, last_day TEXT, gross_wh INTEGER, aux_wh INTEGER,
+    corrected_wh INTEGER, first INTEGER, last INTEGER, act INTEGER,
+    PRIMARY KEY (device, first_day)) STRICT, WITHOUT ROWID;
+CREATE TABLE correction (
+    act INTEGER PRIMARY KEY, device TEXT, first_day TEXT, less_wh INTEGER,
+    withdrawal INTEGER) STRICT;
+CREATE TABLE cancellation (
+    number INTEGER PRIMARY KEY, account INTEGER, first INTEGER, last INTEGER, beneficiary TEXT,
+    use_first TEXT, use_last TEXT, day TEXT, act INTEGER) STRICT;
+CREATE INDEX cancellation_by_account ON cancellation (account);
+CREATE TABLE withdrawal (
+    number INTEGER PRIMARY KEY, first INTEGER, last INTEGER, reason TEXT, day TEXT,
+    act INTEGER) STRICT;
+CREATE TABLE peer (code INTEGER PRIMARY KEY, act INTEGER) STRICT;
+CREATE TABLE notice (
+    sent INTEGER, peer INTEGER, number INTEGER, account INTEGER, far_account INTEGER,
+    count INTEGER, day TEXT, act INTEGER, PRIMARY KEY (sent, peer, number))
+    STRICT, WITHOUT ROWID;
+CREATE TABLE imported (
+    sender INTEGER, number INTEGER, text TEXT, PRIMARY KEY (sender, number)) STRICT;
+'''
+"""`meta` has the entry up to which the book goes, and the next number of each kind there. No list
+shows `imported`: it has the notices that the rules have to know again."""
+INDEXES = """
+CREATE INDEX act_by_kind ON act (kind, id);
+CREATE INDEX act_by_device ON act (device, id) WHERE device IS NOT NULL;
+CREATE INDEX moved_by_act ON moved (act, first);
+CREATE INDEX run_by_account ON run (account, kind, first);
+CREATE VIRTUAL TABLE word USING fts5 (
+    text, content = '', detail = none, columnsize = 0, tokenize = 'trigram');
+CREATE VIRTUAL TABLE letters USING fts5vocab (word, row);
+"""
+"""What only readers need. It is made at the end, from whole tables, which is quicker."""
+
+
+def searched(key: str) -> str:
+    """The text in which an act is looked for, as SQL, with this as its key.
+
+    Who may not see the key does not find the act by it.
+    """
+    parts = ("coalesce(act.note, '')", f"coalesce({key}, '')", "coalesce(act.device, '')",
+             "coalesce(act.holder, '')")
+    return " || ' ' || ".join(parts)
+
+
+INDEXED = f'''INSERT INTO word (rowid, text)
+    SELECT id, WITHOUT_NUL({searched('act.key')} || char(10) || {searched('NULL')} || '  ')
+    FROM act WHERE id > ? ORDER BY id'''
+"""Adds the later acts to the index of texts: which acts have which three letters in a row, in the
+text with the key or in the one without. The blanks at the end have each letter begin a three."""
+
+
+class Mismatch(Exception):
+    """The log is not what the rules or the book say. The text names the entry."""
+
+
+def without_nul(text: str) -> str:
+    """A text for FTS5, which reads to the first NUL."""
+    return text.replace('\0', '\ufffd')
+
+
+def connect(path: Path, read_only: bool = False,
+            factory: type[sqlite3.Connection] = sqlite3.Connection) -> sqlite3.Connection:
+    """A connection to a book."""
+    mode = 'ro' if read_only else 'rwc'
+    database = sqlite3.connect(f'{path.resolve().as_uri()}?mode={mode}', uri=True,
+                               isolation_level=None, timeout=30, factory=factory)
+    database.row_factory = sqlite3.Row
+    database.create_function('WITHOUT_NUL', 1, without_nul, deterministic=True)
+    return database
+
+
+def read_moment(path: Path,
+                factory: type[sqlite3.Connection] = sqlite3.Connection) -> sqlite3.Connection:
+    """A connection that reads one moment of a finished book."""
+    database = connect(path, read_only=True, factory=factory)
+    try:
+        database.execute('BEGIN')
+        form, = database.execute('SELECT form FROM meta').fetchone()
+        if form != FORM:
+            raise Mismatch(f'{path.resolve()} has form {form}, and this program reads form {FORM}: '
+                           'goo-records.service makes it anew')
+    except BaseException:
+        database.close()
+        raise
+    return database
