@@ -63,7 +63,7 @@ class Description:
         if 'enum' in schema:
             return strategies.sampled_from(schema['enum'])
         if schema.get('type') == 'integer':
-            low, high = schema.get('minimum', 0), schema['maximum']
+            low, high = int(schema.get('minimum', 0)), int(schema['maximum'])
             few = FEW.map(lambda number: max(low, number))
             numbers = (strategies.integers(low, high) | few).map(str)
             return numbers | strategies.sampled_from(there) if there else numbers

@@ -18,7 +18,8 @@ from made_book import Made
 from goo_service.common.rules import ISSUER
 
 RECORDS = Description('records.yaml')
-OPERATIONS = pytest.mark.parametrize('operation', RECORDS.operations, ids=lambda of: of.name)
+OPERATIONS = pytest.mark.parametrize('operation', RECORDS.operations,
+                                     ids=[of.name for of in RECORDS.operations])
 CALLERS = strategies.sampled_from([ISSUER, 'SUN', 'VOLT', 'STRANGER'])
 THERE = {'account': '1', 'count': '3', 'numbers': '1', 'number': '1'}
 """Parameters that an operation needs, of what is there."""
@@ -109,10 +110,11 @@ def test_answers_are_as_they_are_described(made: Made, known: dict[str, list[str
 LISTS = [of for of in RECORDS.operations if 'format' in RECORDS.parameters(of, 'query')]
 
 
-@pytest.mark.parametrize('operation', LISTS, ids=lambda of: of.name)
+@pytest.mark.parametrize('operation', LISTS, ids=[of.name for of in LISTS])
 def test_each_list_has_items_and_their_columns(made: Made, operation: Operation) -> None:
     """What the schema of an item names is what an item has, and the columns of the file."""
-    query = {'choose': {'account': 1, 'count': 3}, 'listDeadlines': {'days': 4000}}
+    query: dict[str, dict[str, Any]] = {'choose': {'account': 1, 'count': 3},
+                                        'listDeadlines': {'days': 4000}}
     asked = query.get(operation.name, {})
     status, answer = made.asked(ISSUER, operation.path, **asked)
     assert status == 200
@@ -128,16 +130,18 @@ def test_each_list_has_items_and_their_columns(made: Made, operation: Operation)
 
 def test_a_member_that_is_not_described_is_told() -> None:
     """The descriptions are closed: more than they say is a fault."""
-    page = {'stands': {'code': 7, 'today': '2025-03-01', 'entry': 1, 'time': None}, 'next': None,
-            'items': [{'code': 'SUN', 'name': 'Sun', 'accounts': 1}]}
+    item: dict[str, object] = {'code': 'SUN', 'name': 'Sun', 'accounts': 1}
+    page: dict[str, object] = {
+        'stands': {'code': 7, 'today': '2025-03-01', 'entry': 1, 'time': None}, 'next': None,
+        'items': [item]}
     operation = next(of for of in RECORDS.operations if of.name == 'listHolders')
 
     def fault(value: object) -> str | None:
         return RECORDS.fault(operation, 200, 'application/json', json.dumps(value).encode())
 
     assert fault(page) is None
-    assert fault({**page, 'more': 1})
-    assert fault({**page, 'items': [{**page['items'][0], 'more': 1}]})
-    assert fault({**page, 'items': [{'code': 'SUN'}]})
+    assert fault(page | {'more': 1})
+    assert fault(page | {'items': [item | {'more': 1}]})
+    assert fault(page | {'items': [{'code': 'SUN'}]})
     assert RECORDS.fault(operation, 404, 'application/json', b'{"error":"x"}')
     assert RECORDS.fault(operation, 200, 'text/html', b'')

@@ -15,7 +15,8 @@ from hypothesis import strategies
 OUTSIDE = Description('openapi-outside.yaml')
 RECORDS = Description('records.yaml')
 USERS = strategies.sampled_from(['office', 'anna', 'bela', 'audit', 'meter', 'nemo', None])
-ODD = (None, '', -1, 0, 1, 10 ** 20, 1.5, True, 'x' * 70, 'Ä\0', [], {}, '2025-02-30', '07' * 7)
+ODD: tuple[object, ...] = (None, '', -1, 0, 1, 10 ** 20, 1.5, True, 'x' * 70, 'Ä\0', [], {},
+                           '2025-02-30', '07' * 7)
 """Values that some member of a request is given."""
 CALLS = settings(max_examples=60, derandomize=True,
                  suppress_health_check=list(HealthCheck))
@@ -98,7 +99,8 @@ def open_house() -> Any:
         yield standing
 
 
-@pytest.mark.parametrize('operation', OUTSIDE.operations, ids=lambda of: of.name)
+@pytest.mark.parametrize('operation', OUTSIDE.operations,
+                         ids=[of.name for of in OUTSIDE.operations])
 def test_answers_outside_are_as_they_are_described(open_house: House, operation: Operation) -> None:
     statuses = []
 

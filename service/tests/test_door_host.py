@@ -27,7 +27,7 @@ from loopback import Place
 
 
 def balanced(place: Place, port: int, without: str = '') -> str:
-    """The balancer's file with ports of this machine: a place is the first host, nobody the rest."""
+    """The balancer's file with ports of this machine: the place is the first host."""
     text = (SERVICE / 'etc/haproxy/haproxy.cfg').read_text()
     for old, new in (
         ('bind :443', f'bind 127.0.0.1:{port}'),
@@ -191,7 +191,8 @@ def test_map_of_callers_is_for_root_alone(tmp_path: pathlib.Path) -> None:
     listed, users, made = tmp_path / 'callers', tmp_path / 'users', tmp_path / 'map'
     listed.write_text('anna SUN\n')
     users.write_text('anna:$2y$08$6oKgfgcaPPdrJFmNPb8Vn.zoMilNsYJFKY9NiC9vva1cP3n9xG/2y\n')
-    words = [*command('goo-callers', SERVICE), '--list', listed, '--users', users, '--map', made]
+    words = list(map(str, [*command('goo-callers', SERVICE), '--list', listed, '--users', users,
+                           '--map', made]))
     made.write_text('')
     made.chmod(0o644)
     for path in (listed, users):
@@ -213,7 +214,7 @@ def test_log_is_for_root_and_its_group(tmp_path: pathlib.Path) -> None:
         'systemd-tmpfiles',
         '--create',
         f'--root={tmp_path}',
-        SERVICE / 'etc/tmpfiles/goo.conf',
+        str(SERVICE / 'etc/tmpfiles/goo.conf'),
     ]
     subprocess.run(words, check=True, capture_output=True)
     log = tmp_path / 'var/log/goo/front-door.log'
