@@ -10,6 +10,7 @@ with the program. So books are made and asked within milliseconds, and no proces
 """
 import json
 import sqlite3
+from collections.abc import Iterable
 from pathlib import Path
 from typing import Any
 
@@ -151,6 +152,50 @@ class Made:
         return self.items(caller, 'acts', **parameters)
 
 
+class Logged(Made):
+    """The same without a book of its own: the records go into an archive, from a number on."""
+
+    def __init__(self, folder: Path, first: int = 1, before: str = '0' * 64) -> None:
+        super().__init__(folder)
+        self.archive = entries.Archive(folder / 'archive')
+        self.last, self.hash = first - 1, before
+
+    def take(self, record: entries.Record) -> None:
+        entry = record.entry._replace(prev=self.hash)
+        line = entries.written(entry, b'a key of a trial of records')
+        self.hash = entries.hash_of(line)
+        self.archive.add(line, entry, record.outcome)
+        self.archive.sync()
+
+    def send_all(self, requests: Iterable[tuple[Any, ...]]) -> None:
+        """Requests as tools/lib/records_trial.py makes them: user, caller, route, body, role."""
+        for user, caller, route, body, *role in requests:
+            if role:
+                answer = FORBIDDEN, b'Forbidden\n'
+            elif route == '/v1/declarations':
+                _, report, told = self.model.declare(body, caller)
+                answer = BAD if told else 200, bytes(report)
+            else:
+                report = self.model.line(caller.encode() + b' ' + body)
+                answer = status_of(report), report
+            self.take(self.record(caller, route, body, *answer, user=user,
+                                  role=''.join(role) or 'full'))
+
+
+def rows_of_book(path: Path) -> list[tuple[Any, ...]]:
+    """The rows of all tables of a book, and which acts have which letters by its index of texts."""
+    database = schema.connect(path, read_only=True)
+    database.execute('CREATE VIRTUAL TABLE temp.instances USING fts5vocab (main, word, instance)')
+    names = [name for name, in database.execute(TABLES)]
+    found = [(name, *row) for name in names for row in database.execute(f'SELECT * FROM {name}')]
+    found += map(tuple, database.execute('SELECT term, doc FROM instances ORDER BY term, doc'))
+    database.close()
+    return found
+
+
+TABLES = """SELECT name FROM main.sqlite_master WHERE type = 'table' AND name NOT LIKE 'word%'
+            AND name NOT LIKE 'passed_%' AND name <> 'letters' ORDER BY name"""
+"""Those that are the same however a book came to its rows."""
 DEVICE = '500000000000000012'
 PLANT = {'device': DEVICE, 'account': 1, 'country': 'DE', 'site': 'North', 'tech': 'T010000',
          'source': 'F01010100', 'capacity_w': 10 ** 9, 'support': 'none',

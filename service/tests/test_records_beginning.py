@@ -4,14 +4,13 @@ import shutil
 import subprocess
 from pathlib import Path
 
-from goo_service.log import entries
 import pytest
 from house import SERVICE
 from service_commands import command
 from house import House
 from made_book import CODE
 from made_book import DAY
-from made_book import Made
+from made_book import Logged
 
 RECORDS, = command('goo-records', SERVICE)
 ADVICE = 'GOO_RECORDS_BEGIN=--copy COPY'
@@ -25,27 +24,10 @@ def followed(folder: Path, *words: object) -> subprocess.CompletedProcess[str]:
                           check=False)
 
 
-class Written(Made):
-    """A registry of the model whose records go into an archive, from a number on."""
-
-    def __init__(self, folder: Path, first: int = 1, before: str = '0' * 64) -> None:
-        super().__init__(folder)
-        self.archive = entries.Archive(folder / 'archive')
-        self.last, self.hash = first - 1, before
-
-    def take(self, record: entries.Record) -> None:
-        super().take(record)
-        entry = record.entry._replace(prev=self.hash)
-        line = entries.written(entry, b'a key of a trial of records')
-        self.hash = entries.hash_of(line)
-        self.archive.add(line, entry, record.outcome)
-        self.archive.sync()
-
-
 @pytest.fixture
-def later(tmp_path: Path) -> Written:
+def later(tmp_path: Path) -> Logged:
     """A log that begins with entry 41, after an entry whose hash is known."""
-    log = Written(tmp_path, 41, 'a' * 64)
+    log = Logged(tmp_path, 41, 'a' * 64)
     log.country()
     return log
 
@@ -61,7 +43,7 @@ def copy_of(folder: Path, **place: object) -> Path:
     return copy
 
 
-def test_a_log_that_begins_later_needs_a_copy(later: Written) -> None:
+def test_a_log_that_begins_later_needs_a_copy(later: Logged) -> None:
     done = followed(later.folder, *BEGUN)
     assert done.returncode == 3
     assert 'begins with entry 41, and the book would begin with entry 1, by --begun' in done.stderr
@@ -74,14 +56,14 @@ def test_a_log_that_begins_later_needs_a_copy(later: Written) -> None:
     ({'n': 39, 'hash': 'a' * 64}, 'begins with entry 41, and the book would begin with entry 40'),
     ({'n': 900, 'hash': 'a' * 64}, 'and the book would begin after entry 900'),
     ({'hash': 'a' * 64}, 'no place in it')])
-def test_a_copy_of_another_log_is_told(later: Written, place: dict[str, object], told: str) -> None:
+def test_a_copy_of_another_log_is_told(later: Logged, place: dict[str, object], told: str) -> None:
     done = followed(later.folder, '--copy', copy_of(later.folder, **place))
     assert done.returncode == 3
     assert told in done.stderr
     assert done.stderr.count('\n') == 1
 
 
-def test_after_is_what_the_copy_says(later: Written) -> None:
+def test_after_is_what_the_copy_says(later: Logged) -> None:
     copy = copy_of(later.folder, n=40, hash='a' * 64)
     done = followed(later.folder, '--copy', copy, '--after', 7)
     assert done.stderr == (f'records: {copy} was made at entry 40, and --after says 7: '
@@ -117,8 +99,9 @@ def test_a_log_begun_anew_over_a_registry_with_records(own_house: House) -> None
     assert (done.returncode, ADVICE in done.stderr) == (3, True)
     done = followed(folder, '--copy', copy, *door)
     assert done.returncode == 0
-    checked = own_house.run(RECORDS, 'check', *door, '--into', folder / 'book')
-    assert checked.stdout == 'the book and the registry agree\n'
+    checked = own_house.run(RECORDS, 'check', '--copies', own_house.copies, '--archive',
+                            folder / 'archive', '--into', folder / 'book')
+    assert f'the book and {copy} of entry 0, with the entries since, agree' in checked.stdout
 
 
 def test_a_registry_that_begins_has_nothing_to_lack(own_house: House) -> None:

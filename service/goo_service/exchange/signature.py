@@ -21,7 +21,8 @@ class Key:
 
     def __init__(self, path: Path) -> None:
         self.private = read_private(path)
-        der = self.private.public_key().public_bytes(Encoding.DER, PublicFormat.SubjectPublicKeyInfo)
+        public = self.private.public_key()
+        der = public.public_bytes(Encoding.DER, PublicFormat.SubjectPublicKeyInfo)
         self.public = base64.b64encode(der).decode()
 
     def signature(self, text: str) -> str:

@@ -19,6 +19,8 @@ CONF = '/etc/goo/records.conf'
 AGAIN = (f'Where the registry had records before its log, {CONF} has to name the copy that was '
          'made when the log was begun: GOO_RECORDS_BEGIN=--copy COPY (RECORDS.md, "Running it")')
 """What to do where a beginning may be the wrong one."""
+END = 1 << 16
+"""Bytes at the end of an archive's file in which its last line is looked for at first."""
 PATIENCE = 10
 """Seconds in which the registry answers, or is asked later."""
 
@@ -87,9 +89,9 @@ def check_first_entry(archive: Path, place: Place) -> None:
 def last_number(archive: Path) -> int:
     """The number of the last whole entry of an archive, 0 where there is none."""
     for path in reversed(entries.months(archive)):
-        last = entries.last_of(path, entries.read_record)[0]
-        if last:
-            return int(last.entry.n)
+        number = entries.last_of(path, entries.number_in, size=END)[0]
+        if number:
+            return int(number)
     return 0
 
 

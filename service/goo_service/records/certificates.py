@@ -37,7 +37,8 @@ ORDERS = {'oldest': 'lot.first_day, run.first',
 LOT_FILTERS = {
     **{name: f'lot.{name} = ?' for name in ('tech', 'source', 'country', 'carrier', 'device',
                                             'origin', 'support')},
-    'from': 'lot.first_day >= ?', 'to': 'lot.last_day <= ?', 'expires_before': 'lot.expires_on <= ?'}
+    'from': 'lot.first_day >= ?', 'to': 'lot.last_day <= ?',
+    'expires_before': 'lot.expires_on <= ?'}
 ACTS = {'transfer': 'tradable', 'export': 'tradable', 'cancel': 'held', 'withdraw': 'held'}
 """The acts that certificates are chosen for, and which of an account's certificates are fit for
 each: those whose trade is open, or all that are held."""
@@ -64,8 +65,8 @@ def certificate(database: sqlite3.Connection, viewer: Viewer, number: int) -> Ro
     life = rows_of(database, f'''
         SELECT act.* FROM passed JOIN moved ON moved.id = passed.id JOIN act ON act.id = moved.act
         WHERE passed.lot <= ? AND passed.to_lot >= ? AND passed.first <= ? AND passed.last >= ?
-        AND ? BETWEEN moved.first AND moved.last AND {seen} ORDER BY act.id''',
-        (lot, lot, offset, offset, number, *seen_values))
+        AND ? BETWEEN moved.first AND moved.last AND {seen} ORDER BY act.id''', (
+            lot, lot, offset, offset, number, *seen_values))
     return {'number': f'{number:014}', **found[0],
             'holder': party_of(database, found[0]['account']),
             'life': [shown_act(database, viewer, row, 1) for row in life]}

@@ -5,7 +5,8 @@ entries further. So the entries since the copy are carried out over the copy's r
 then both are of the book's entry. What the rules make of those few entries is in the next copy, by
 the program itself.
 
-Root reads the copy, which nobody else may. All else is read by the user whose folder the book is in.
+Root reads the copy, which nobody else may. All else is read by the user whose folder the book is
+in.
 """
 import argparse
 import itertools
@@ -221,7 +222,8 @@ def compare(given: argparse.Namespace) -> Result:
                 since.apply(record)
             comparison = Comparison()
             found = comparison.differences(facts_of_registry(registry), facts_of_book(book))
-            return Result(copy, entry, comparison.count, list(itertools.islice(found, SHOWN)))
+            differences = list(itertools.islice(found, SHOWN))
+            return Result(copy, entry, comparison.count, differences)
 
 
 def check(given: argparse.Namespace) -> int:

@@ -22,7 +22,6 @@ import argparse
 import signal
 import sqlite3
 import sys
-from pathlib import Path
 from typing import NoReturn
 
 from goo_service.log import entries

@@ -115,7 +115,8 @@ def statistics(database: sqlite3.Connection, viewer: Viewer, given: Given) -> Li
         raise BadQuestion(f'by is {",".join(wrong)!r}, and not of {", ".join(BY)}, each once')
     flows = f"moved.kind <> {HELD} OR act.kind IN ('issue', 'import')"
     conditions = Conditions(viewer.of_accounts('moved.account'), (flows, ()))
-    of_lot = {name: LOT_FILTERS[name] for name in ('tech', 'source', 'carrier', 'country', 'device')}
+    names = ('tech', 'source', 'carrier', 'country', 'device')
+    of_lot = {name: LOT_FILTERS[name] for name in names}
     conditions.add_given({'from': 'act.day >= ?', 'to': 'act.day <= ?', **of_lot}, given)
     columns = ', '.join(f'{BY[name]} AS {name}' for name in by)
     sums = ', '.join(f'sum(CASE WHEN {test} THEN {LAST} - {FIRST} + 1 ELSE 0 END) AS {name}'

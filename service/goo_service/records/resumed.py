@@ -1,7 +1,8 @@
 """A book that goes on from where it was: the registry in memory, rebuilt from the book's own rows.
 
 What the rules read is in the book: who holds what, the lots, what each declaration has left, the
-next numbers, and the notices that were imported. So no entry that the book has is carried out again.
+next numbers, and the notices that were imported. So no entry that the book has is carried out
+again.
 """
 import sqlite3
 import time

@@ -4,8 +4,8 @@ of them one act tells of together.
 A table of a mebibyte may have half a million rows that state nothing. An act for each would fill a
 book with what nobody looks for. So one act tells of all unreadable rows of a table: how many, and
 which lines. A holder may declare nothing, so all rows of a table of his are refused, and one act
-for each refusal tells of them. Of the issuing body an auditor asks why a device has no certificates for
-a period: its refused rows are acts of their own, with key and device. Of a table with more than
+for each refusal tells of them. Of the issuing body an auditor asks why a device has no certificates
+for a period: its refused rows are acts of their own, with key and device. Of a table with more than
 OWN_ACTS refused rows the later ones are told together. The log keeps each table and each report
 whole, so nothing is lost.
 """
