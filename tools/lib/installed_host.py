@@ -1,0 +1,138 @@
+"""A host on which the package is installed, for tools/trials/installed: commands, units, requests."""
+import json
+import re
+import subprocess
+import sys
+import time
+from collections.abc import Callable
+from pathlib import Path
+
+from loopback import HOME
+
+PASSWORD = 'a-trial-of-{}'
+"""The password of a user."""
+ARCHIVE, COPIES = Path('/var/lib/goo-replica/archive'), Path('/var/backups/goo')
+Done = subprocess.CompletedProcess
+
+
+def run(*words: object, **more: object) -> Done:
+    """A command to its end."""
+    return subprocess.run([str(word) for word in words], text=True, check=False,
+                          **{'capture_output': True, 'timeout': 300, **more})
+
+
+def shell(text: str) -> Done:
+    """A block of the handbook, which stops at its first failure."""
+    return run('bash', '-euo', 'pipefail', '-c', text, cwd='/root')
+
+
+def blocks(heading: str) -> list[str]:
+    """The blocks of commands in a section of the handbook."""
+    for page in sorted((HOME / 'docs').glob('*.md')):
+        section = re.search(rf'(?ms)^##+ {heading}$(.*?)(?=^## |\Z)', page.read_text(encoding='utf-8'))
+        if section:
+            return re.findall(r'(?ms)^ *```sh\n(.*?)^ *```$', section[1])
+    return sys.exit(f'no page of docs/ has a section "{heading}"')
+
+
+def comes(is_so: Callable[[], object], seconds: float = 30) -> bool:
+    """Whether something becomes so within this time."""
+    end = time.monotonic() + seconds
+    while not is_so():
+        if time.monotonic() > end:
+            return False
+        time.sleep(0.2)
+    return True
+
+
+# ------------------------------------------------------------------ units
+
+def states(*units: str) -> list[str]:
+    return run('systemctl', 'is-active', *units).stdout.split()
+
+
+def become(state: str, *units: str) -> bool:
+    """Whether units come to a state within half a minute."""
+    return comes(lambda: set(states(*units)) == {state})
+
+
+def start(unit: str) -> bool:
+    """Whether a unit starts; one that runs to its end ends well."""
+    return run('systemctl', 'start', unit).returncode == 0
+
+
+def shown(unit: str, name: str) -> str:
+    return run('systemctl', 'show', f'--property={name}', '--value', unit).stdout.strip()
+
+
+def journal(unit: str) -> str:
+    return run('journalctl', '-u', unit, '--no-pager', '-o', 'cat').stdout[-900:]
+
+
+def failed() -> str:
+    return run('systemctl', '--failed', '--plain', '--no-legend').stdout.strip()
+
+
+# ------------------------------------------------------------------ requests
+
+def at_door(user: str, path: str, body: object = None) -> tuple[str, str]:
+    """Status and text of a request through the front door. By curl, as the handbook has it."""
+    data = ['--data', json.dumps(body)] if body else []
+    done = run('curl', '-sk', '--max-time', '60', '-u', f'{user}:{PASSWORD.format(user)}',
+               '-w', '\n%{http_code}', *data, f'https://localhost{path}')
+    text, _, status = done.stdout.rpartition('\n')
+    return status, text
+
+
+def by_socket(user: str, path: str, body: object = None, socket: str = 'door') -> str:
+    """The answer to a local user. By curl, since another user may not read tools/lib/client.py."""
+    data = ['--data', json.dumps(body)] if body else []
+    return run('runuser', '-u', user, '--', 'curl', '-s', '--max-time', '20', '--unix-socket',
+               f'/run/goo/{socket}.sock', '-H', 'GOO-Caller: ISSUER', '-H', 'GOO-Role: full', *data,
+               f'http://goo{path}').stdout
+
+
+def outcome(body: object, user: str = 'office') -> str:
+    """The outcome of a request at the front door; where there is none, what came."""
+    status, text = at_door(user, '/v1/requests', body)
+    found = re.search(r'"outcome":"(\w+)"', text)
+    return found[1] if found else f'{status} {text}'
+
+
+def holder(key: str) -> dict[str, str]:
+    return {'command': 'open_holder', 'key': key, 'holder': key.upper(), 'name': key.capitalize()}
+
+
+def is_well(seconds: float = 60) -> bool:
+    """Whether the log takes requests within this time."""
+    return comes(lambda: '"ok": true' in by_socket('root', '/healthz'), seconds)
+
+
+def last_entry() -> str:
+    """The last line of the archive."""
+    newest = sorted(ARCHIVE.glob('*.jsonl'))[-1]
+    return newest.read_text(encoding='utf-8').splitlines()[-1]
+
+
+def copies() -> list[Path]:
+    return sorted(COPIES.glob('2*'))
+
+
+# ------------------------------------------------------------------ the package
+
+def installs(package: str) -> Done:
+    return run('dpkg', '--install', f'/mnt/{package}')
+
+
+def set_up() -> Done:
+    """A registry of this host alone, whose first user is office."""
+    password = Path('/root/office')
+    password.write_text(PASSWORD.format('office') + '\n', encoding='ascii')
+    return run('goo-setup', '--self-signed', '--alone', '--name', 'localhost', '--code', '7',
+               '--user', 'office', '--password-file', password, stdin=subprocess.DEVNULL)
+
+
+def add_user(name: str, *words: str) -> Done:
+    password = Path('/root', name)
+    password.write_text(PASSWORD.format(name) + '\n', encoding='ascii')
+    return run('goo-setup', 'user', 'add', name, *words, '--password-file', password)
