@@ -5,6 +5,7 @@ import subprocess
 from pathlib import Path
 
 from goo_service.log import entries
+from goo_service.log.archive import Archive
 import pytest
 from house import SERVICE
 from service_commands import command
@@ -30,7 +31,7 @@ class Written(Made):
 
     def __init__(self, folder: Path, first: int = 1, before: str = '0' * 64) -> None:
         super().__init__(folder)
-        self.archive = entries.Archive(folder / 'archive')
+        self.archive = Archive(folder / 'archive')
         self.last, self.hash = first - 1, before
 
     def take(self, record: entries.Record) -> None:

@@ -20,6 +20,8 @@ import time
 from replica_trial import (Bare, GOO, REPLICA, REPLICA_LOG, VERSION, Weak, ask, carried_out, check, day, dump, group_of, gsrn, must, run, tally, until)
 import client
 from goo_service.log import entries
+from goo_service.log.archive import Archive
+from goo_service.log.archive import compress
 
 
 def restart(host, *names):
@@ -59,7 +61,7 @@ def entry_form(cluster, work):
     archives.make_archive(GOO, folder, [("office", "ISSUER", "/v1/requests", body) for body in bodies])
     read = list(entries.read_archive(folder, 0, archives.KEY))
     check("an archive over the end of a month has each body as it came", [one.entry.body for one in read] == bodies and len(entries.months(folder)) == 2, read)
-    entries.compress(folder)
+    compress(folder)
     check("and so it has with its first month compressed, from each entry on", all([one.entry.n for one in entries.read_archive(folder, n, archives.KEY)] == list(range(n + 1, 9)) for n in range(9)))
     last = folder / "2025-03.jsonl"
     whole = last.read_bytes()
@@ -69,7 +71,7 @@ def entry_form(cluster, work):
     for at in range(0, len(whole), 11):
         last.write_bytes(whole[:at])
         with contextlib.redirect_stderr(io.StringIO()):
-            told, mended = [one.entry.n for one in entries.read_archive(folder)], entries.Archive(folder).last.entry.n
+            told, mended = [one.entry.n for one in entries.read_archive(folder)], Archive(folder).last.entry.n
         lost += [at] if told[-1] != mended or mended != 5 + whole[:at].count(b"\n") or last.read_bytes() != whole[:whole[:at].rfind(b"\n") + 1] else []
     check("cut off at each place, it ends with its last whole line", not lost, lost)
 

@@ -241,15 +241,15 @@ def unanswered():
     return "python3", "-c", f"""
 import runpy, sys
 sys.path.insert(0, {str(SERVICE)!r})
-from goo_service.log import etcd_store
-call = etcd_store.Etcd.call
+from goo_service.log import etcd, store
+call = etcd.Etcd.call
 
 async def lost(self, path, words):
-    etcd_store.Etcd.call = call
+    etcd.Etcd.call = call
     await call(self, path, words)
-    raise etcd_store.NoAnswer("the answer is lost")
+    raise store.NoAnswer("the answer is lost")
 
-etcd_store.Etcd.call = lost
+etcd.Etcd.call = lost
 runpy.run_module("goo_service.log.command", run_name="__main__")
 """
 

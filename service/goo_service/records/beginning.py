@@ -12,6 +12,7 @@ from pathlib import Path
 
 from goo_service.common.client import Client
 from goo_service.common.client import NoAnswer
+from goo_service.log import ends
 from goo_service.log import entries
 from goo_service.records.schema import Mismatch
 
@@ -87,7 +88,7 @@ def check_first_entry(archive: Path, place: Place) -> None:
 def last_number(archive: Path) -> int:
     """The number of the last whole entry of an archive, 0 where there is none."""
     for path in reversed(entries.months(archive)):
-        last = entries.last_of(path, entries.read_record)[0]
+        last = ends.last_of(path, entries.read_record)[0]
         if last:
             return int(last.entry.n)
     return 0
