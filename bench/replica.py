@@ -4,7 +4,7 @@
 usage: python3 bench/replica.py [RUNS]
 
 Both of the replica's processes are played here, in one, with log and archive in /dev/shm. The registry is the program, in memory, which is asked for looks: what a question itself costs the replica
-is the same for each. 32 writes come at once, as from 32 clients. Needs python3-uvloop for figures that compare.
+is the same for each. 32 writes come at once, as from 32 clients.
 """
 import asyncio
 import collections
@@ -58,14 +58,14 @@ def replica_of(folder, port):
     (folder / 'key').write_bytes(KEY)
     position.begin(folder / 'place', 0, secrets.token_hex(32))
     place = position.Place(folder / 'place')
-    first = entries.Entry(1, place.h, entries.now(), 'h1', '', '', 'full', 'ISSUER', 'VERSION', '', 'v', 'x', b'v')
+    first = entries.Entry(1, place.hash, entries.now(), 'h1', '', '', 'full', 'ISSUER', 'VERSION', '', 'v', 'x', b'v')
     file_store.begin(folder / 'log', entries.written(first, KEY), 1)
     place.close()
-    words = module.words_of().parse_args(['--state', str(folder), '--store', str(folder / 'log'), '--key', str(folder / 'key'), '--registry', f'127.0.0.1:{port}', '--version', 'v'])
+    words = module.parse_words(['--state', str(folder), '--store', str(folder / 'log'), '--key', str(folder / 'key'), '--registry', f'127.0.0.1:{port}', '--version', 'v'])
     near, far = socket.socketpair()
     second = apply.Applier(words, KEY, far)
     second.version = 'v'
-    second.tell_place()
+    second.send_place()
     replica = module.Replica(words, KEY, near)
     replica.down, replica.version, replica.begun, replica.applier.transport = False, 'v', True, Sent()
     replica.store.at_once = False       # requests gather, though the first one is alone when it comes
@@ -92,28 +92,28 @@ async def taken_in(replica, parts, told):
         calls = [door.Call(*door.head_of(HEAD % (len(BODY) + secrets.randbelow(1000000) * (n == 0)))[0], BODY) for n in range(MANY)]
     with parts.part('first process: taken in'):
         for call in calls:
-            replica.serve(call, lambda answer, fields: told.append(answer))
+            replica.service.serve(call, lambda answer, fields: told.append(answer))
     with parts.part('first process: entries with their hashes, into the log'):
-        await replica.append_batch(replica.batch(), end)
+        await replica.append_batch(replica.requests.batch(replica.store), end)
     with parts.part('first process: given to the second'):
-        await replica.hand(replica.known_from(end.n + 1))
+        await replica.hand(replica.known.run_from(end.n + 1, MANY))
 
 
 def applied(replica, second, parts):
     """In the second process: from the first one to the outcomes."""
     with parts.part('second process: taken from the first'):
-        for _, texts in second.frames.take(replica.applier.transport.taken()):
+        for _, texts in second.frames.add(replica.applier.transport.taken()):
             second.queue.extend(texts)
     with parts.part('second process: questions to the registry'):
         for _ in range(MANY):
-            second.registry.ask('GET', '/v1/certificates/07000000000001', 'ISSUER', meanwhile=second.registry.ahead)
-    second.registry.leave()
+            second.registry.call('GET', '/v1/certificates/07000000000001', 'ISSUER', meanwhile=second.registry.connect_ahead)
+    second.registry.close()
     with parts.part('second process: outcomes with their hashes, archive and place'):
         for line, entry, h in second.queue:
             second.finish(line, entries.Entry(*entry), h, SAID)
     second.queue.clear()
     with parts.part('second process: told to the first'):
-        second.tell()
+        second.send_outcomes()
 
 
 async def one_run(replica, second, near, parts):
@@ -130,7 +130,7 @@ async def measured(port, runs):
     with tempfile.TemporaryDirectory(dir='/dev/shm') as folder:
         replica, second, near = replica_of(Path(folder), port)
         second.step((await replica.store.lines_from(1))[0])
-        second.tell()
+        second.send_outcomes()
         replica.handed, _ = 1, replica.sizes.append(0)
         replica.applier.data_received(near.recv(1 << 20))
         for _ in range(runs):
@@ -139,9 +139,6 @@ async def measured(port, runs):
 
 
 def main():
-    with contextlib.suppress(ImportError):
-        import uvloop
-        uvloop.install()
     port, registry, _ = listening(lambda port: subprocess.Popen([PROGRAM, 'serve', '--memory', *NEW, '--port', str(port), '--count', '1000000000'], stdout=subprocess.PIPE))
     try:
         least = asyncio.run(measured(port, int((sys.argv[1:] or ['200'])[0])))

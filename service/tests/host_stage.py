@@ -95,7 +95,7 @@ DOOR = r'''
 import http.server, json, os, pathlib, socketserver, sys
 sys.dont_write_bytecode = True
 from goo_service.log import entries
-from goo_service.log import file_store
+from goo_service.log import store
 
 def why():
     for unit in ('goo-door.socket', 'goo.service', 'goo-replica.service'):
@@ -105,7 +105,7 @@ def why():
         return 'the registry does not answer'
     lines = [line for path in sorted(pathlib.Path('/var/lib/goo-replica/log').glob('*.jsonl'))
              for line in path.read_bytes().splitlines()]
-    end = file_store.after(entries.read_entry(lines[-1]), lines[-1]).version if lines else ''
+    end = store.after(entries.read_entry(lines[-1]), lines[-1]).version if lines else ''
     here = pathlib.Path('/run/goo/version').read_text().strip()
     return '' if not lines or end == here else f'the log is at version {end}, and the program here is {here}'
 

@@ -15,6 +15,7 @@ from pathlib import Path
 from typing import Any
 
 from goo_service.log import entries
+from goo_service.log.archive import Archive
 from goo_service.records import schema
 from goo_service.records import web
 from goo_service.records.book import Book
@@ -157,7 +158,7 @@ class Logged(Made):
 
     def __init__(self, folder: Path, first: int = 1, before: str = '0' * 64) -> None:
         super().__init__(folder)
-        self.archive = entries.Archive(folder / 'archive')
+        self.archive = Archive(folder / 'archive')
         self.last, self.hash = first - 1, before
 
     def take(self, record: entries.Record) -> None:

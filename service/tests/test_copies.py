@@ -15,10 +15,16 @@ from pathlib import Path
 
 from goo_service.copies import contents
 from goo_service.log import entries
+from goo_service.log.archive import Archive
+from goo_service.log.archive import compress
 import loopback
 from goo_service.common import owner
 import pytest
 from goo_service.copies import nightly
+from goo_service.copies import replay
+from goo_service.copies import verification
+from goo_service.copies.places import Place
+from goo_service.copies.places import read_place
 from goo_service.log import position
 from goo_service.copies import rows
 from goo_service.log import reversal
@@ -27,6 +33,7 @@ from house import SERVICE
 from house import House
 from mutations import gsrn
 from plants import copied
+from plants import plant
 from service_commands import command
 
 GOO = str(Path(loopback.program()).resolve())
@@ -52,8 +59,8 @@ class Log:
         self.state.mkdir()
         self.copies.mkdir()
         self.origin = 'f' * 64
-        self.archive = entries.Archive(self.state / 'archive')
-        self.place = {'n': 0, 'hash': self.origin, 'chain': entries.NO_CHAIN, 'version': 'trial'}
+        self.archive = Archive(self.state / 'archive')
+        self.place = Place(0, self.origin, entries.NO_CHAIN, 'trial')
 
     def add(self, body: bytes, answer: bytes = ACCEPTED, *, status: int = 200,
             route: str = '/v1/requests', caller: str = 'ISSUER') -> None:
@@ -70,12 +77,11 @@ class Log:
     def copy(self, db: Path) -> Path:
         """A copy of a database at the end of the archive."""
         if last := self.archive.last:
-            self.place = {'n': last.entry.n, 'hash': last.hash, 'chain': last.outcome.chain,
-                          'version': 'trial'}
+            self.place = Place(last.entry.n, last.hash, last.outcome.chain, 'trial')
         return nightly.first_copy(GOO, db, self.copies, self.place)
 
     def verify(self, begin: int = 1) -> list[str]:
-        return list(nightly.verify(GOO, self.state / 'archive', KEY, None, self.copies,
+        return list(verification.verify(GOO, self.state / 'archive', KEY, None, self.copies,
                                           begin))
 
     def file(self) -> Path:
@@ -128,10 +134,10 @@ def test_a_replay_gives_the_program_no_more_than_it_takes(log: Log, tmp_path: Pa
     sizes = [1 << 20] * 20 + [chance.choice((90, 900, 65536, 1 << 20)) for _ in range(60)]
     for number, size in enumerate(sizes):
         log.add(opened_holder(number, size))
-    now = nightly.bring_up(str(program), tmp_path / 'none', log.state / 'archive',
+    now = replay.bring_up(str(program), tmp_path / 'none', log.state / 'archive',
                                   log.place, KEY)
     given = list(map(int, told.read_text().split()))
-    assert now['n'] == len(sizes)
+    assert now.n == len(sizes)
     assert max(given) <= MOST and sum(given) == sum(len('ISSUER ') + 1 + len(
         opened_holder(number, size)) for number, size in enumerate(sizes))
 
@@ -146,7 +152,7 @@ def test_long_requests_and_a_long_field_are_applied_to_a_copy(log: Log, db: Path
     rows_of_one = (size - len(HEADER)) // 2
     log.add(HEADER + b'a\n' * rows_of_one, b''.join(
         b'%d unreadable\n' % row for row in range(1, rows_of_one + 1)), route='/v1/declarations')
-    [*_, last] = nightly.verify(GOO, log.state / 'archive', KEY, begun, log.copies)
+    [*_, last] = verification.verify(GOO, log.state / 'archive', KEY, begun, log.copies)
     assert last == f'entries 1 to 22, applied to {begun}, come to the outcomes of the archive'
 
 
@@ -169,7 +175,7 @@ def test_a_table_has_the_rows_that_the_program_finds(db: Path) -> None:
         done = subprocess.run([GOO, 'declare', '--db', db], input=table, capture_output=True,
                               check=False)
         assert not done.stderr
-        assert len(nightly.rows_of(table)) == len(done.stdout.splitlines()), table[:200]
+        assert len(replay.rows_of(table)) == len(done.stdout.splitlines()), table[:200]
 
 
 # ------------------------------------------------------------------ rows
@@ -466,7 +472,7 @@ def test_a_copy_is_the_live_file(log_house: House) -> None:
     subprocess.run([GOO, 'audit', '--db', house.db], check=True, capture_output=True)
     assert dumped(newest(house) / 'registry.db') == dumped(house.db)
     place = json.loads((newest(house) / 'place.json').read_text())
-    assert place['n'] == entries.number_in(
+    assert place.n == entries.number_in(
         entries.months(house.state / 'archive')[-1].read_bytes().splitlines()[-1])
 
 
@@ -550,9 +556,7 @@ def test_writes_wait_while_the_file_is_copied_and_go_on_however_it_ends(log_hous
 def test_a_hold_ends_by_itself(tmp_path: Path) -> None:
     """The replica closes the connection before it goes on, and a copy of that time is none."""
     service = copied(tmp_path)
-    text = (service / 'goo_service/log/replica.py').read_text()
-    assert text.count('\nHOLD = 120 ') == 1
-    (service / 'goo_service/log/replica.py').write_text(text.replace('\nHOLD = 120 ', '\nHOLD = 0.4 '))
+    plant(service, 'goo_service/log/hold.py', '\nHOLD = 120\n', '\nHOLD = 0.4\n')
     slow = (service / 'goo_service/copies/contents.py').read_text()
     assert slow.count('        [after] = as_owner') == 1
     (service / 'goo_service/copies/contents.py').write_text(slow.replace(
@@ -571,8 +575,8 @@ def put_before(house: House, copy: Path, n: int) -> None:
     part = house.folder / 'part'
     part.mkdir()
     contents.copy_database(copy / 'registry.db', part)
-    nightly.bring_up(GOO, part / 'registry.db', house.state / 'archive',
-                            nightly.read_place(copy), house.key.read_bytes(), n - 1)
+    replay.bring_up(GOO, part / 'registry.db', house.state / 'archive',
+                            read_place(copy), house.key.read_bytes(), n - 1)
     for file in house.db.parent.glob('registry.db*'):
         file.unlink()
     (part / 'registry.db').rename(house.db)
@@ -650,7 +654,7 @@ def test_an_archive_of_months_is_cut_at_any_entry(tmp_path: Path, last: int) -> 
     """Of three months, the first compressed; what was taken out stays as it was."""
     state = tmp_path / 'state'
     (state / 'log').mkdir(parents=True)
-    archive, prev, chain = entries.Archive(state / 'archive'), 'f' * 64, entries.NO_CHAIN
+    archive, prev, chain = Archive(state / 'archive'), 'f' * 64, entries.NO_CHAIN
     for number, month in enumerate(('01', '01', '02', '02', '03'), 1):
         entry = entries.Entry(
             n=number, prev=prev, time=f'2025-{month}-01T09:00:00.000000Z', host='h1', user='',
@@ -660,24 +664,24 @@ def test_an_archive_of_months_is_cut_at_any_entry(tmp_path: Path, last: int) -> 
                     entries.decided('/v1/requests', 200, ACCEPTED, chain))
         assert archive.last
         prev, chain = archive.last.hash, archive.last.outcome.chain
-    entries.compress(state / 'archive')
+    compress(state / 'archive')
     records = list(entries.read_archive(state / 'archive'))
     whole = {path.name: path.read_bytes() for path in (state / 'archive').iterdir()}
     for _ in range(2):
-        folder = Path(reversal.take_out(state, last, lambda point: line_after(point)))
+        folder = Path(reversal.remove_from(state, last, lambda point: line_after(point)))
     assert list(entries.read_archive(state / 'archive')) == records[:last - 1]
     assert {path.name: path.read_bytes() for path in (folder / 'archive').iterdir()} == whole
-    place = position.Place(state / 'place', None)
-    assert (place.n, place.h) == (last - 1, records[last - 1].entry.prev)
+    place = position.Place(state / 'place')
+    assert (place.n, place.hash) == (last - 1, records[last - 1].entry.prev)
     place.close()
     with pytest.raises(entries.Broken, match=f'entry {last} is being undone'):
-        reversal.take_out(state, last + 1, lambda point: line_after(point))
+        reversal.remove_from(state, last + 1, lambda point: line_after(point))
     (folder / 'sent').touch()
     with pytest.raises(entries.Broken, match=f'no entry {last} '):
-        reversal.take_out(state, last, lambda point: line_after(point))
+        reversal.remove_from(state, last, lambda point: line_after(point))
 
 
-def line_after(point: reversal.Point) -> bytes:
+def line_after(point: position.Position) -> bytes:
     """The entry with which a new log begins."""
     entry = entries.Entry(
         n=point.n + 1, prev=point.hash, time='2025-03-02T09:00:00.000000Z', host='h1', user='',
@@ -726,8 +730,8 @@ def test_a_log_begun_over_a_registry_places_the_beginning_of_the_book(
     assert {path.name for path in (book / 'first').iterdir()} == {'registry.db', 'place.json'}
     assert os.geteuid() != 0 or (book / 'first/registry.db').stat().st_uid == NOBODY
     told.write_text('as it was\n')
-    line = line_after(reversal.Point(0, 'f' * 64, '-'))
+    line = line_after(position.Position(0, 'f' * 64, '-'))
     outcome = entries.decided('', 200, b'', entries.NO_CHAIN)
-    entries.Archive(state / 'archive').add(line, entries.read_entry(line), outcome)
+    Archive(state / 'archive').add(line, entries.read_entry(line), outcome)
     first_copy(tmp_path, db)
     assert told.read_text() == 'as it was\n'

@@ -15,9 +15,13 @@ import pytest
 
 from house import SERVICE
 from service_commands import command
+from goo_service.log import ends
 from goo_service.log import entries
+from goo_service.log.archive import Archive
+from goo_service.log.archive import compress
 from goo_service.log import file_store
 from goo_service.log import position
+from goo_service.log.store import NoRoom
 
 KEY = b'a key of this trial'
 BODY = b'{"command":"open_account","key":"a%d","holder":"SUN \xc3\xa4 \\"quoted\\""}'
@@ -34,7 +38,7 @@ class Made:
     def open(self) -> int:
         """The last entry, once a replica has opened it."""
         if self.kind == 'archive':
-            return entries.Archive(self.file.parent, KEY).last.entry.n
+            return Archive(self.file.parent, KEY).last.entry.n
         store = file_store.FileStore(self.file.parent, KEY)
         os.close(store.lock)
         os.close(store.file)
@@ -56,7 +60,7 @@ def lines_of(count: int) -> Iterator[tuple[entries.Entry, bytes]]:
 
 
 def archive_of(folder: Path, count: int) -> Path:
-    archive, chain = entries.Archive(folder), entries.NO_CHAIN
+    archive, chain = Archive(folder), entries.NO_CHAIN
     for entry, line in lines_of(count):
         outcome = entries.decided(entry.route, 200, ACCEPTED % entry.n, chain)
         archive.add(line, entry, outcome)
@@ -149,8 +153,8 @@ def test_a_file_with_the_beginning_of_its_first_line_alone_is_emptied(tmp_path: 
     """A crash in the first line of a month leaves that; the month before has the end."""
     file = archive_of(tmp_path, 9)
     (tmp_path / '2026-04.jsonl').write_bytes(file.read_bytes()[:100])
-    entries.compress(tmp_path)
-    archive = entries.Archive(tmp_path, KEY)
+    compress(tmp_path)
+    archive = Archive(tmp_path, KEY)
     assert archive.last.entry.n == 9
     assert (tmp_path / '2026-04.jsonl').read_bytes() == b''
     entry = entry_of(10, archive.last.hash, BODY % 10)      # of March, by a clock that was set back
@@ -179,7 +183,7 @@ def test_the_archive_is_read_up_to_the_damaged_entry(tmp_path: Path) -> None:
 
 def long_archive(folder: Path, rows: int) -> Path:
     """An archive with an accepted request, and a table whose rows are all unreadable."""
-    archive, entry, chain, line = entries.Archive(folder), None, entries.NO_CHAIN, b''
+    archive, entry, chain, line = Archive(folder), None, entries.NO_CHAIN, b''
     body = b'key,device,first_day,last_day,gross_wh,aux_wh\n' + b'a\n' * rows
     report = b''.join([b'%d unreadable\n' % (n + 2) for n in range(rows)])
     for n in (1, 2):
@@ -197,12 +201,12 @@ def long_archive(folder: Path, rows: int) -> Path:
 def test_lines_of_eleven_megabytes_are_read_from_the_end(tmp_path: Path) -> None:
     file = long_archive(tmp_path, 524_000)
     whole = file.read_bytes()
-    assert len(whole.splitlines()[-1]) > 10 << 20 > entries.TAIL
-    assert entries.Archive(tmp_path, KEY).last.entry.n == 2
-    assert entries.last_plain(tmp_path).entry.n == 1
+    assert len(whole.splitlines()[-1]) > 10 << 20 > ends.TAIL
+    assert Archive(tmp_path, KEY).last.entry.n == 2
+    assert ends.last_plain(tmp_path).entry.n == 1
     assert [one.entry.n for one in entries.read_archive(tmp_path, 1, KEY)] == [2]
     file.write_bytes(whole[:-1000])
-    assert entries.Archive(tmp_path, KEY).last.entry.n == 1
+    assert Archive(tmp_path, KEY).last.entry.n == 1
 
 
 @pytest.mark.parametrize('size', [1, 7, 100, 500, 5_000, 1 << 20])
@@ -213,7 +217,7 @@ def test_the_end_of_a_file_whatever_is_read_of_it(made: Made, size: int) -> None
         kept = whole[:len(whole) - cut]
         lines = kept.count(b'\n')
         made.file.write_bytes(kept)
-        assert entries.last_of(made.file, entries.number_in, size=size)[0] == lines
+        assert ends.last_of(made.file, entries.number_in, size=size)[0] == lines
 
 
 # ------------------------------------------------------------------ a full disk, and two at once
@@ -222,10 +226,11 @@ FULL = '''
 import sys
 sys.path.insert(0, sys.argv[1])
 from goo_service.log import entries
+from goo_service.log.archive import Archive
 from goo_service.log import file_store
 from pathlib import Path
 state = Path(sys.argv[2])
-print(entries.Archive(state / 'archive', b'a key of this trial').last.entry.n,
+print(Archive(state / 'archive', b'a key of this trial').last.entry.n,
       file_store.FileStore(state / 'log', b'a key of this trial').last.n)
 '''
 
@@ -248,7 +253,7 @@ def test_a_month_or_a_file_that_finds_no_room_leaves_the_one_before(
         tmp_path: Path, monkeypatch: pytest.MonkeyPatch) -> None:
     archive_of(tmp_path / 'a', 1)
     log_of(tmp_path / 'l', 1)
-    archive, store = entries.Archive(tmp_path / 'a'), file_store.FileStore(tmp_path / 'l', KEY)
+    archive, store = Archive(tmp_path / 'a'), file_store.FileStore(tmp_path / 'l', KEY)
     (first, line), (second, line2) = lines_of(2)
     archive.add(line2, second, archive.last.outcome)
     with monkeypatch.context() as patch:
@@ -257,7 +262,7 @@ def test_a_month_or_a_file_that_finds_no_room_leaves_the_one_before(
         for _ in range(2):
             with pytest.raises(OSError):
                 archive.add(line, first._replace(n=3, time='2026-04-01'), archive.last.outcome)
-            with pytest.raises(file_store.NoRoom):
+            with pytest.raises(NoRoom):
                 store.put([line2])
     archive.add(line, first._replace(n=3, time='2026-04-01'), archive.last.outcome)
     assert [path.name[:7] for path in entries.months(tmp_path / 'a')] == ['2026-03', '2026-04']
@@ -284,11 +289,11 @@ def test_a_second_one_is_locked_out_before_it_cuts(tmp_path: Path) -> None:
 def test_a_second_process_that_applies_is_locked_out_before_it_cuts(tmp_path: Path) -> None:
     """By the real program: two replicas over one folder, the first one in the midst of a line."""
     file = archive_of(tmp_path / 'archive', 9)
-    last = entries.Archive(tmp_path / 'archive', KEY).last
+    last = Archive(tmp_path / 'archive', KEY).last
     position.begin(tmp_path / 'place', 9, last.hash, last.outcome.chain)
     log_of(tmp_path / 'log', 9)
     (tmp_path / 'key').write_bytes(KEY)
-    held = position.Place(tmp_path / 'place', 9)
+    held = position.Place(tmp_path / 'place')
     torn = file.read_bytes() + b'{"entry":{"n":10,'
     file.write_bytes(torn)
     words = {'state': tmp_path, 'store': tmp_path / 'log', 'key': tmp_path / 'key',

@@ -316,7 +316,7 @@ def service(tmp_path: Path) -> Path:
 def make_small(service: Path) -> None:
     """Files of the log end after some entries, and go soon after all of them are archived."""
     plant(service, 'goo_service/log/file_store.py', 'SIZE = 16 << 20', 'SIZE = 3 << 10')
-    plant(service, 'goo_service/log/replica.py', 'await asyncio.sleep(60)\n            self.applier.send("sync")',
+    plant(service, 'goo_service/log/replica.py', "await asyncio.sleep(60)\n            self.applier.send('sync')",
           'await asyncio.sleep(0.1)\n            self.applier.send("sync")')
 
 

@@ -12,6 +12,7 @@ import sys
 sys.path.insert(0, str(pathlib.Path(__file__).resolve().parents[2] / 'service'))
 sys.dont_write_bytecode = True
 from goo_service.log import entries
+from goo_service.log.archive import Archive
 from goo_service.log import roles
 from client import Answer, answered, listening, post
 
@@ -30,7 +31,7 @@ def make_archive(goo, folder, requests, code=7, today='2025-03-01', begin='2025-
     words = [goo, 'serve', '--memory', '--code', str(code), '--today', today, '--count', '1000000', '--port']
     port, registry, _ = listening(lambda port: subprocess.Popen([*words, str(port)], stdout=subprocess.PIPE))
     try:
-        archive, origin = entries.Archive(folder), secrets.token_hex(32)
+        archive, origin = Archive(folder), secrets.token_hex(32)
         for count, (user, caller, route, body, *given) in enumerate(requests):
             role = given[0] if given else 'full'
             took = datetime.datetime.fromisoformat(begin) + datetime.timedelta(seconds=count * step)

@@ -17,6 +17,7 @@ from readings import with_check_digit
 
 sys.path.append(str(HOME / 'service'))
 from goo_service.log import entries
+from goo_service.log.archive import Archive
 from goo_service.common import rules
 import service_commands
 
@@ -759,7 +760,7 @@ class OfManyLots(WithRecords):
     the registry behind this door, which would take minutes, is empty."""
 
     def begin_log(self):
-        archive, model = entries.Archive(self.dir / 'replica/archive'), rules.Registry(self.code, self.day, 1)
+        archive, model = Archive(self.dir / 'replica/archive'), rules.Registry(self.code, self.day, 1)
         self.written = ['0' * 64, entries.NO_CHAIN, 0]
         plants = [{'command': 'register_device', 'device': gsrn(500 + i), 'account': 1, 'country': 'DE', 'site': f'Roof {i}', 'tech': 'T010000', 'source': 'F01040100', 'capacity_w': 2000000,
                    'commissioned': '2020-06-15', 'support': 'none'} for i in range(LOT_DEVICES)]

@@ -12,6 +12,7 @@ import subprocess
 import time
 
 from goo_service.log import entries
+from goo_service.log.archive import Archive
 from archives import KEY
 from client import answered, free_port, request
 from records_trial import ACCOUNTS, CODE, DEVICES, OWN, TODAY, Requests, Service
@@ -57,7 +58,7 @@ def traded(count):
 
 def write_archive(folder, requests):
     """An archive of requests that were all accepted; how many they are."""
-    archive, before, chain, count = entries.Archive(folder), secrets.token_hex(32), entries.NO_CHAIN, 0
+    archive, before, chain, count = Archive(folder), secrets.token_hex(32), entries.NO_CHAIN, 0
     for count, (caller, command) in enumerate(requests, 1):
         entry = entries.Entry(n=count, prev=before, time='2026-02-01T00:00:00.000000Z', host='h', user=f'user-{caller.lower()}', address='', role='full', caller=caller, method='POST',
                               route='/v1/requests', version='trial', id=f'{count:x}', body=json.dumps(command, ensure_ascii=False).encode())

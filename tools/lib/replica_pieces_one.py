@@ -7,7 +7,6 @@ import io
 import itertools
 import json
 import os
-import pathlib
 import random
 import re
 import shutil
@@ -17,9 +16,11 @@ import struct
 import subprocess
 import threading
 import time
-from replica_trial import (Bare, GOO, REPLICA, REPLICA_LOG, VERSION, Weak, ask, carried_out, check, day, dump, group_of, gsrn, must, run, tally, until)
+from replica_trial import (Bare, CRASHING, GOO, REPLICA, REPLICA_LOG, VERSION, Weak, ask, carried_out, check, day, dump, group_of, gsrn, must, run, tally, until)
 import client
 from goo_service.log import entries
+from goo_service.log.archive import Archive
+from goo_service.log.archive import compress
 
 
 def restart(host, *names):
@@ -59,7 +60,7 @@ def entry_form(cluster, work):
     archives.make_archive(GOO, folder, [("office", "ISSUER", "/v1/requests", body) for body in bodies])
     read = list(entries.read_archive(folder, 0, archives.KEY))
     check("an archive over the end of a month has each body as it came", [one.entry.body for one in read] == bodies and len(entries.months(folder)) == 2, read)
-    entries.compress(folder)
+    compress(folder)
     check("and so it has with its first month compressed, from each entry on", all([one.entry.n for one in entries.read_archive(folder, n, archives.KEY)] == list(range(n + 1, 9)) for n in range(9)))
     last = folder / "2025-03.jsonl"
     whole = last.read_bytes()
@@ -69,7 +70,7 @@ def entry_form(cluster, work):
     for at in range(0, len(whole), 11):
         last.write_bytes(whole[:at])
         with contextlib.redirect_stderr(io.StringIO()):
-            told, mended = [one.entry.n for one in entries.read_archive(folder)], entries.Archive(folder).last.entry.n
+            told, mended = [one.entry.n for one in entries.read_archive(folder)], Archive(folder).last.entry.n
         lost += [at] if told[-1] != mended or mended != 5 + whole[:at].count(b"\n") or last.read_bytes() != whole[:whole[:at].rfind(b"\n") + 1] else []
     check("cut off at each place, it ends with its last whole line", not lost, lost)
 
@@ -135,14 +136,14 @@ def some(work, count, tag):
 
 def crashes(cluster, work, count=60):
     host = cluster.hosts[0]
-    host.env, cluster.delay = {"GOO_REPLICA_CRASH": str(host.folder / "crash")}, (0, 0)
+    host.replica, cluster.delay = (*CRASHING, host.folder / "crash"), (0, 0)
     restart(host)
     cluster.even(60)
     before = host.starts["replica"]
     answered = some(work, count, "crash")
     cluster.even(60)
     crashed = host.starts["replica"] - before
-    host.env, cluster.delay = {}, (0.2, 1.5)
+    host.replica, cluster.delay = (REPLICA,), (0.2, 1.5)
     restart(host)
     check(f"a crash between the registry's commit and the record of n at {crashed} entries, {answered} answered", crashed >= count // 3 and answered == count, (crashed, answered))
     same_as_replay(cluster, "after the crashes")
@@ -299,23 +300,6 @@ def slow_senders(cluster, work):
             ends.append(round(time.monotonic() - began, 1))
     check(f"clients that send half a request are cut off after {ends} s, and another one is answered after {done['answered'] - began:.2f} s",
           all(9 < end < 15 for end in ends) and not any(said) and done["status"] == 200 and done["answered"] - began < 5, (ends, done))
-
-
-def plain_loop(cluster, work):
-    """Without uvloop, which a host may lack, the replica is slower and otherwise the same."""
-    host, folder = cluster.hosts[0], cluster.folder / "lacks"
-    folder.mkdir()
-    (folder / "uvloop.py").write_text("raise ImportError")
-    loops = []
-    for host.env in ({}, {"PYTHONPATH": str(folder)}):
-        restart(host)
-        cluster.even(60)
-        answered = some(work, 30, f"loop-{len(loops)}")
-        loops.append((answered, "uvloop" in pathlib.Path(f"/proc/{host.processes['replica'].pid}/maps").read_text()))
-    host.env = {}
-    restart(host)
-    check("with uvloop and without it 30 requests of each kind are answered", loops == [(30, True), (30, False)], loops)
-    same_as_replay(cluster, "after the plain loop")
 
 
 def full_disk(cluster, work):
@@ -679,4 +663,4 @@ def slots(cluster, work):
     check("300 files of a place, the slot in hand lost at a power failure: the last synced place stands", not bad, bad[:3])
 
 
-PIECES = [entry_form, slots, roles, as_before, twice, no_registry, crashes, halves, torn_tables, table_cuts, weak, gone, slow_senders, plain_loop, full_disk, set_aside, version, copies, tampered, forged, restored, old_place, shipped, by_ssh, follower, large]
+PIECES = [entry_form, slots, roles, as_before, twice, no_registry, crashes, halves, torn_tables, table_cuts, weak, gone, slow_senders, full_disk, set_aside, version, copies, tampered, forged, restored, old_place, shipped, by_ssh, follower, large]

@@ -10,7 +10,7 @@ import subprocess
 import sys
 import threading
 import time
-from replica_trial import (CODE, GATE, GOO, HOME, REPLICA, REPLICA_LOG, SERVICE, VERSION, Weak, ask, check, day, gsrn, must, run, tally, until)
+from replica_trial import (CODE, CRASHING, GATE, GOO, HOME, REPLICA, REPLICA_LOG, SERVICE, VERSION, Weak, ask, check, day, gsrn, must, run, tally, until)
 import client
 import service_commands
 from goo_service.log import entries
@@ -55,7 +55,7 @@ def again(host, name="replica"):
 
 def crashes(cluster, work, count=90):
     host = cluster.hosts[0]
-    host.env = {"GOO_REPLICA_CRASH": str(host.folder / "crash")}
+    host.replica = (*CRASHING, host.folder / "crash")
     cluster.delay = (0, 0)
     again(host)
     cluster.even(60)
@@ -63,7 +63,7 @@ def crashes(cluster, work, count=90):
     answered = some(work, count, 1, "crash")
     entry = cluster.even(400)
     crashed = host.starts["replica"] - before
-    host.env, cluster.delay = {}, (0.2, 1.5)
+    host.replica, cluster.delay = (REPLICA,), (0.2, 1.5)
     again(host)
     check(f"a crash between goo's commit and the record of n at {crashed} entries, {answered} answered meanwhile", crashed >= count // 4 and entry and answered == count, (crashed, entry, answered))
     even_dumps(cluster, "after the crashes")
@@ -241,15 +241,15 @@ def unanswered():
     return "python3", "-c", f"""
 import runpy, sys
 sys.path.insert(0, {str(SERVICE)!r})
-from goo_service.log import etcd_store
-call = etcd_store.Etcd.call
+from goo_service.log import etcd, store
+call = etcd.Etcd.call
 
 async def lost(self, path, words):
-    etcd_store.Etcd.call = call
+    etcd.Etcd.call = call
     await call(self, path, words)
-    raise etcd_store.NoAnswer("the answer is lost")
+    raise store.NoAnswer("the answer is lost")
 
-etcd_store.Etcd.call = lost
+etcd.Etcd.call = lost
 runpy.run_module("goo_service.log.command", run_name="__main__")
 """
 

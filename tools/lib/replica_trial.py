@@ -18,6 +18,7 @@ from tally import Tally
 
 GOO = loopback.program()
 (REPLICA,), (REPLICA_LOG,) = command("goo-replica", SERVICE), command("goo-replica-log", SERVICE)
+CRASHING = ("/usr/bin/python3", "-P", HOME / "tools/lib/crashing_replica.py")
 DIGEST = " ".join(command("goo-copies digest", SERVICE))
 LIBC = ctypes.CDLL(None, use_errno=True)
 TODAY, CODE, VERSION = "2026-03-01", 7, "trial"
@@ -55,8 +56,8 @@ class Host:
         self.ns, self.address = (None, "127.0.0.1") if self.alone else (f"gr{os.getpid()}-{i}", f"10.99.0.{i}")
         self.port, self.inner = (client.free_port(), client.free_port()) if self.alone else (8470, 8471)
         self.names = ("goo", "replica") if self.alone else ("etcd", "rows", "goo", "replica")
-        self.processes, self.held, self.again_at, self.env, self.words = {}, set(), {}, {}, []
-        self.starts = collections.Counter()
+        self.processes, self.held, self.again_at, self.words = {}, set(), {}, []
+        self.starts, self.replica = collections.Counter(), (REPLICA,)
         self.goo_port = self.inner
         self.fd = None
 
@@ -93,7 +94,7 @@ class Host:
             return ["sh", "-c", f"rm -f {socket}; exec systemd-socket-activate --accept --inetd --listen {socket} {DIGEST} --db {self.disk}/goo/registry.db --into {self.folder}"]
         if name == "goo":
             return [GOO, "serve", "--db", self.disk / "goo/registry.db", "--port", str(self.inner), "--count", "1000000000"]
-        return [REPLICA, *self.common(), "--listen", f"127.0.0.1:{self.port}", "--registry", f"127.0.0.1:{self.goo_port}", "--digest", "100", "--rows", self.folder / "rows.sock",
+        return [*self.replica, *self.common(), "--listen", f"127.0.0.1:{self.port}", "--registry", f"127.0.0.1:{self.goo_port}", "--digest", "100", "--rows", self.folder / "rows.sock",
                 *(["--store", self.state / "log"] if self.alone else []), "--version", f"@{self.folder}/version", *self.words]
 
     def etcd_command(self):
@@ -119,7 +120,7 @@ class Host:
     def start(self, name):
         with open(self.folder / f"{name}.log", "ab") as log:
             self.processes[name] = subprocess.Popen(self.inside(*self.command(name)), stdin=subprocess.DEVNULL, stdout=log, stderr=log,
-                                                    env={**os.environ, **(self.env if name == "replica" else {})}, start_new_session=True)
+                                                    start_new_session=True)
         self.starts[name] += 1
 
     def pids(self, name):

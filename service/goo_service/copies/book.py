@@ -1,20 +1,23 @@
-"""Where the book of acts begins, when a log is begun over a registry that has requests already (docs/RECORDS.md).
+"""Where the book of acts begins, when a log is begun over a registry that has requests already.
 
-The book is made from the log. A log that is begun later does not tell what came before it, so the book begins with the copy that
-was made when the log was begun. The user of the records reads a copy of its own, in its folder; root writes the file in /etc/goo
-that tells how the book begins.
+The book is made from the log (docs/RECORDS.md). A log that is begun later does not tell what came
+before it, so the book begins with the copy that was made when the log was begun. The user of the
+records reads a copy of its own, in its folder; root writes the file in /etc/goo that tells how the
+book begins.
 """
 import os
 import pwd
 import shutil
 import sqlite3
-from contextlib import ExitStack, closing
+from contextlib import ExitStack
+from contextlib import closing
 from pathlib import Path
 from typing import BinaryIO
 
 from goo_service.common.files import write_whole
+from goo_service.common.owner import done_as_owner
+from goo_service.common.owner import remove
 from goo_service.copies.contents import open_regular
-from goo_service.common.owner import done_as_owner, remove
 
 USER = 'goo-records'
 BOOK = Path(os.environ.get('GOO_BOOK') or '/var/lib/goo-records')
@@ -24,9 +27,12 @@ FILES = ('registry.db', 'place.json')
 
 
 def place_beginning(copy: Path, n: int, configuration: Path) -> str:
-    """The book begins with a copy of entry n, where records are kept on this host. What was done, in words; nothing where nothing was."""
-    told = configuration / 'records.conf'
-    if not configuration.is_dir() or told.exists() and not has_requests(copy / 'registry.db'):
+    """The book begins with a copy of entry n, where records are kept on this host.
+
+    What was done, in words; nothing where nothing was.
+    """
+    conf = configuration / 'records.conf'
+    if not configuration.is_dir() or conf.exists() and not has_requests(copy / 'registry.db'):
         return ''
     if not BOOK.is_dir():
         try:
@@ -38,15 +44,16 @@ def place_beginning(copy: Path, n: int, configuration: Path) -> str:
     with ExitStack() as stack:
         files = {name: stack.enter_context(open_regular(copy / name)) for name in FILES}
         done_as_owner(BOOK, lambda: write_first(files))
-    write_whole(told, '# How the book of acts begins (RECORDS.md)\n'
-                      f'GOO_RECORDS_BEGIN=--copy {BOOK / FIRST} --after {n}\n', 0o644)
-    return f'{told}: the book of acts begins with this copy, after entry {n}'
+    write_whole(conf, '# How the book of acts begins (RECORDS.md)\n'
+                f'GOO_RECORDS_BEGIN=--copy {BOOK / FIRST} --after {n}\n', 0o644)
+    return f'{conf}: the book of acts begins with this copy, after entry {n}'
 
 
 def has_requests(database: Path) -> bool:
-    asked = 'SELECT EXISTS (SELECT 1 FROM receipt)'
-    with closing(sqlite3.connect(f'file:{database}?mode=ro&immutable=1', uri=True)) as connection:
-        return bool(connection.execute(asked).fetchone()[0])
+    source = f'file:{database}?mode=ro&immutable=1'
+    with closing(sqlite3.connect(source, uri=True)) as connection:
+        found = connection.execute('SELECT EXISTS (SELECT 1 FROM receipt)').fetchone()
+        return bool(found[0])
 
 
 def write_first(files: dict[str, BinaryIO]) -> None:

@@ -359,17 +359,17 @@ def bring_up(folder):
 
 def check_before(folder, n):
     """What has to be so that entry n can be undone, before anything is changed."""
+    from goo_service.copies import places
     from goo_service.log import entries
-    from goo_service.copies import nightly
     from goo_service.log import reversal
     if not has_log():
         raise contents.Unfit('--before: this host has no log of requests')
     if WORDS.is_file() and '--etcd' in WORDS.read_text():
         raise contents.Unfit('--before: the log is over etcd. Go back to one host first (docs/OPERATING.md, "Three hosts")')
     try:
-        place = nightly.read_place(folder)
-        if place['n'] >= n:
-            raise contents.Unfit(f'{folder} has entry {n} in it, as it is of entry {place["n"]}: take an earlier copy')
+        place = places.read_place(folder)
+        if place.n >= n:
+            raise contents.Unfit(f'{folder} has entry {n} in it, as it is of entry {place.n}: take an earlier copy')
         [there] = as_owner(STATE, lambda: iter([json.dumps([str(part) for part in reversal.under_way(STATE) or ()]).encode()]))
         if undone := json.loads(there):
             if int(undone[0]) != n:
@@ -382,20 +382,21 @@ def check_before(folder, n):
 
 def bring_to(staged, folder, n):
     """The staged copy with the entries up to n, by the program, run as the registry's user."""
+    from goo_service.copies import places
+    from goo_service.copies import replay
     from goo_service.log import entries
-    from goo_service.copies import nightly
     try:
         key = entries.read_key(KEY)
-        nightly.bring_up(('runuser', '-u', 'goo', '--', '/usr/bin/goo'), staged, STATE / 'archive', nightly.read_place(folder), key, n)
+        replay.bring_up(('runuser', '-u', 'goo', '--', '/usr/bin/goo'), staged, STATE / 'archive', places.read_place(folder), key, n)
     except entries.Broken as fault:
         raise contents.Unfit(str(fault)) from fault
 
 
 def set_later_copies_aside(n):
     """A copy of entry n or later is of a registry that is no more."""
-    from goo_service.copies import nightly
-    for copy in nightly.placed_copies(COPIES):
-        if nightly.read_place(copy)['n'] >= n:
+    from goo_service.copies import places
+    for copy in places.placed_copies(COPIES):
+        if places.read_place(copy).n >= n:
             copy.rename(copy.with_name(f'undone-{copy.name}'))
             say(f'{copy} is named undone-{copy.name} now, as it has entry {n} in it')
 

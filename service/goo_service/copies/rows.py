@@ -1,7 +1,8 @@
 """All rows of all tables of a registry's file: where two files differ, and one digest over a file.
 
-The files are copies that nobody has open, with their log folded in. docs/TABLES.md says what the tables hold. Rows are compared
-inside SQLite, by the key of their table, so a large file takes no memory here.
+The files are copies that nobody has open, with their log folded in. docs/TABLES.md says what the
+tables hold. Rows are compared inside SQLite, by the key of their table, so a large file takes no
+memory here.
 """
 import hashlib
 import itertools
@@ -35,7 +36,7 @@ class Difference:
     here: str
     there: str
 
-    def told(self) -> str:
+    def in_words(self) -> str:
         return f'{self.table} {self.key}: {self.here}; {self.there}'
 
 
@@ -58,7 +59,10 @@ def named(name: str) -> str:
 
 
 def tables_of(connection: sqlite3.Connection) -> list[Table]:
-    """The tables of a file, by name. One without a key of its own is ordered by all of its columns."""
+    """The tables of a file, by name.
+
+    One without a key of its own is ordered by all of its columns.
+    """
     names = [name for name, in connection.execute(
         "SELECT name FROM main.sqlite_schema WHERE type = 'table' ORDER BY name")]
     return [table_of(connection, name) for name in names]
@@ -75,12 +79,16 @@ def table_of(connection: sqlite3.Connection, name: str) -> Table:
 # ------------------------------------------------------------------ two files
 
 def differences(one: Path, other: Path, names: tuple[str, str]) -> Iterator[Difference]:
-    """Where the tables of two files differ, the first rows of each. `names` are what the two are called."""
+    """Where the tables of two files differ, the first rows of each.
+
+    `names` are what the two are called.
+    """
     with closing(opened(one)) as connection:
         connection.execute('ATTACH ? AS other', (f'file:{other}?mode=ro&immutable=1',))
         schemas = [connection.execute(SCHEMA.format(file)).fetchall() for file in ('main', 'other')]
         if schemas[0] != schemas[1]:
-            yield Difference('the tables', 'as they were made', f'{names[0]} has others', f'than {names[1]}')
+            yield Difference('the tables', 'as they were made', f'{names[0]} has others',
+                             f'than {names[1]}')
             return
         for table in tables_of(connection):
             yield from itertools.islice(differing(connection, table, names), SHOWN)
@@ -88,25 +96,28 @@ def differences(one: Path, other: Path, names: tuple[str, str]) -> Iterator[Diff
 
 def differing(connection: sqlite3.Connection, table: Table,
               names: tuple[str, str]) -> Iterator[Difference]:
+    """The rows of a table in which the two files differ."""
     for here, there, (first, second) in (('main', 'other', names), ('other', 'main', names[::-1])):
         for row in unlike(connection, table, here, there, both=here == 'main'):
             values, others = row[:len(table.columns)], row[len(table.columns):]
-            told = [f'{column} {value!r}' for column, value in zip(table.columns, values)
-                    if column in table.key]
+            key = ', '.join(f'{column} {value!r}' for column, value
+                            in zip(table.columns, values) if column in table.key)
             if others and others[-1]:
-                changed = [(column, mine, its) for column, mine, its in
-                           zip(table.columns, values, others) if mine != its]
-                yield Difference(
-                    table.name, ', '.join(told),
-                    f'{first} has ' + ', '.join(f'{column} {mine!r}' for column, mine, _ in changed),
-                    f'{second} has ' + ', '.join(f'{column} {its!r}' for column, _, its in changed))
+                changed = [three for three in zip(table.columns, values, others)
+                           if three[1] != three[2]]
+                mine = ', '.join(f'{column} {value!r}' for column, value, _ in changed)
+                its = ', '.join(f'{column} {value!r}' for column, _, value in changed)
+                yield Difference(table.name, key, f'{first} has {mine}', f'{second} has {its}')
             else:
-                yield Difference(table.name, ', '.join(told), f'only in {first}', f'not in {second}')
+                yield Difference(table.name, key, f'only in {first}', f'not in {second}')
 
 
 def unlike(connection: sqlite3.Connection, table: Table, here: str, there: str,
            both: bool) -> Iterator[tuple[object, ...]]:
-    """The rows that one file lacks; with `both` also those that it has with other values, which follow."""
+    """The rows that one file lacks.
+
+    With `both` also those that it has with other values, which follow.
+    """
     mine = ', '.join(f'a.{named(column)}' for column in table.columns)
     its = ', '.join(f'b.{named(column)}' for column in table.columns)
     same = ' AND '.join(f'a.{named(column)} IS b.{named(column)}' for column in table.columns)
@@ -122,7 +133,7 @@ def unlike(connection: sqlite3.Connection, table: Table, here: str, there: str,
 # ------------------------------------------------------------------ one file
 
 def digest(database: Path) -> str:
-    """One hash over all rows of all tables. It does not depend on where SQLite has put the rows."""
+    """One hash over all rows of all tables, wherever SQLite has put the rows."""
     made = hashlib.sha256()
     with closing(opened(database)) as connection:
         for table in tables_of(connection):

@@ -1,393 +1,373 @@
-"""The second process of a replica: it applies the log to the registry, while the first one takes in clients and writes the log.
+"""The second process of a replica: it applies the log to the registry.
 
-The first process forks it before it does anything else, and the two talk by a pair of sockets. What the registry is sent of entries, it
-is sent here, one after another; archive and place are written here alone. The two processes live and end together: each sees
-the other's end of the pair close, and ends at once. So a crash of either is a crash of both.
-
-A message is a tuple. The first process says                This one says
-    ('begin',)         the registry answers: begin              ('place', n, h, chain)           up to here all is applied
-    ('apply', [..])    entries that are in the log: the line,   ('begun',)                       the archive is applied whole
-                       and entry and hash where it made them    ('applied', [..])                of each entry: n, h, chain, id, status, kind, body
-    ('soon',)          an entry comes next, after its append    ('failed', entry, why)           the registry gave no outcome: what now?
-    ('late',)          it does not: the disk is full            ('waits', why)                   why it waits; '' once it goes on
-    ('version', text)  of the registry's program                ('halted', why)                  for good
-    ('again',)         ask the registry once more               ('held', why, n, h, chain)       between two entries; nothing is applied until `go`
-    ('aside',)         the entry is set aside                   ('synced', n)                    archive and place are on the disk up to here
-    ('hold',)          stop between two entries
-    ('go',)            go on with the next entry
-    ('sync',)          archive and place to the disk
+Meanwhile the first one takes in clients and writes the log. The first process forks it before it
+does anything else, and the two talk by a pair of sockets (log/messages.py). What the registry is
+sent of entries, it is sent here, one after another; archive and place are written here alone. The
+two processes live and end together: each sees the other's end of the pair close, and ends at once.
+So a crash of either is a crash of both.
 """
-import collections
-import marshal
 import os
-import pathlib
 import select
 import signal
 import socket
 import sys
 import time
+import traceback
+from collections import deque
+from collections.abc import Iterable
+from pathlib import Path
+from typing import Any
+from typing import NoReturn
 
+from goo_service.log import ends
 from goo_service.log import entries
 from goo_service.log import roles
+from goo_service.log.archive import Archive
+from goo_service.log.entries import Entry
+from goo_service.log.entries import Outcome
+from goo_service.log.entries import Record
+from goo_service.log.messages import Frames
+from goo_service.log.messages import Text
+from goo_service.log.messages import framed
+from goo_service.log.options import Options
 from goo_service.log.position import Place
-from goo_service.log.registry import BROKEN, PART, Answer, Talk, address_of, connected, request_of
+from goo_service.log.position import Position
+from goo_service.log.registry import APPLY
+from goo_service.log.registry import BROKEN
+from goo_service.log.registry import PART
+from goo_service.log.registry import SOON
+from goo_service.log.registry import Answer
+from goo_service.log.registry import EntryCalls
 
-KEPT = 256                                  # entries at most between two syncs of the place
-TOLD, SOON = 8, 1                           # outcomes at most that are told together, and milliseconds that they wait for the registry
-APPLY = 300                                 # seconds for an answer of the registry
-OUTCOMES = (200, 400, 403, 409)             # what the registry decides; anything else is the same entry again
+KEPT = 256
+"""Entries at most between two syncs of the place."""
+TOGETHER = 8
+"""Outcomes at most that are sent together while the registry is at the next entry."""
+OUTCOMES = (200, 400, 403, 409)
+"""What the registry decides. Anything else is the same entry again."""
 ASIDE = Answer(entries.SET_ASIDE, 'text/plain; charset=utf-8', b'Set aside\n')
 NOT_ALLOWED = Answer(403, 'text/plain; charset=utf-8', b'Forbidden\n')
-MOVED = Answer(200, '', b'')                # the answer to an entry that moves the version
-CRASH = os.environ.get('GOO_REPLICA_CRASH')     # for trials
+MOVED = Answer(200, '', b'')
+"""The answer to an entry that moves the version."""
 
 
-def framed(*message):
-    text = marshal.dumps(message)
-    return len(text).to_bytes(4, 'little') + text
-
-
-class Frames:
-    """Messages from the bytes that come."""
-
-    def __init__(self):
-        self.came = bytearray()
-
-    def take(self, part):
-        self.came += part
-        while len(self.came) >= 4 and len(self.came) >= (end := 4 + int.from_bytes(self.came[:4], 'little')):
-            text = bytes(self.came[4:end])
-            del self.came[:end]
-            yield marshal.loads(text)
-
-
-class Questions:
-    """The registry, asked one question after another: by a bare socket each, without asyncio.
-
-    Where a next question is sure to come its connection is opened while the registry is at this one, so that it comes to it at once. No connection waits
-    there without a question: the registry answers one after another, and would let reads wait behind it.
-    """
-
-    def __init__(self, address, wait):
-        """`wait(s)` comes back once something came by a socket, or raises TimeoutError."""
-        self.family, self.address = address_of(address)
-        self.wait, self.next, self.last = wait, None, None
-
-    def ask(self, method, target, caller, body=b'', meanwhile=lambda: None):
-        """The answer, which came whole. Anything else raises one of BROKEN. `meanwhile` is called while the registry is at the question."""
-        s, self.next = self.next or connected(self.family, self.address), None
-        try:
-            talk = Talk(s, method)
-            if rest := talk.say(request_of(method, target, caller, body)):
-                s.settimeout(APPLY)
-                s.sendall(rest)
-            self.close()
-            meanwhile()
-            while True:
-                self.wait(s)
-                if answer := talk.take(s.recv(PART)):
-                    return answer
-        except BROKEN:
-            self.leave()
-            raise
-        finally:
-            self.last = s
-
-    def ahead(self):
-        try:
-            self.next = self.next or connected(self.family, self.address)
-        except OSError:
-            pass                                # the next question tells
-
-    def close(self):
-        """The connection of the last question: to close it takes a while, and is done while the registry has something to do."""
-        if self.last:
-            self.last.close()
-        self.last = None
-
-    def leave(self):
-        """No next question comes for now."""
-        self.close()
-        if self.next:
-            self.next.close()
-        self.next = None
+def is_plain(entry: Entry, status: int) -> bool:
+    return (entry.route, status) == entries.PLAIN
 
 
 class Applier:
-    def __init__(self, words, key, pair):
-        self.words, self.key, self.pair = words, key, pair
-        self.place = Place(pathlib.Path(words.state) / 'place')          # locked, before the archive is opened: another replica may be writing there
-        self.archive = entries.Archive(pathlib.Path(words.state) / 'archive', key)
-        self.place.take(self.archive.last and self.archive.last.entry.n)
-        self.registry, self.frames = Questions(words.registry, self.came), Frames()
+    """Applies entries in their order, and talks with the first process meanwhile."""
+
+    def __init__(self, options: Options, key: bytes, pair: socket.socket) -> None:
+        self.options, self.key, self.pair = options, key, pair
+        state = Path(options.state)
+        # locked, before the archive is opened: another replica may be writing there
+        self.place = Place(state / 'place')
+        self.archive = Archive(state / 'archive', key)
+        self.place.read(self.archive.last and self.archive.last.entry.n)
+        self.registry, self.frames = EntryCalls(options.registry, self.wait_for), Frames()
         self.poll = select.poll()
         self.poll.register(pair, select.POLLIN)
-        self.queue, self.told = collections.deque(), []         # texts that wait to be applied, and outcomes that wait to be told
-        self.asked, self.verdict = set(), ''                    # what else the first process wants, and what it said of an entry that failed
+        self.queue: deque[Text] = deque()                   # entries that wait to be applied
+        self.outcomes: list[tuple[Any, ...]] = []           # outcomes that wait to be sent
+        self.wishes: set[str] = set()           # what else the first process wants
+        self.verdict = ''                       # what it says of an entry that failed
         self.version, self.halted, self.why = '', False, ''
-        self.held = False                       # nothing is applied, since the registry's file is copied
+        self.held = False                       # nothing is applied: the registry's file is copied
 
     # -------------------------------------------------------------- the pair
 
-    def say(self, *message):
+    def send(self, *message: Any) -> None:
         try:
             self.pair.sendall(framed(*message))
         except OSError:
             os._exit(1)
 
-    def listen(self, seconds=None):
+    def listen(self, seconds: float | None = None) -> None:
         """Waits for the first process, so long at most."""
         if self.poll.poll(None if seconds is None else seconds * 1000):
-            self.hear()
+            self.receive()
 
-    def hear(self):
+    def receive(self) -> None:
+        """Receives what the first process has sent."""
         try:
             part = self.pair.recv(PART)
         except OSError:
             part = b''
         if not part:
-            os._exit(1)                         # it has ended: whatever is under way is begun again
+            os._exit(1)                         # it has ended: whatever is under way begins again
         kind = ''
-        for kind, *said in self.frames.take(part):
+        for kind, *members in self.frames.add(part):
             if kind == 'apply':
-                self.queue.extend(said[0])
+                self.queue.extend(members[0])
             elif kind == 'version':
-                self.version = said[0]
+                self.version = members[0]
             elif kind in ('again', 'aside'):
                 self.verdict = kind
             elif kind != 'soon':
-                self.asked.add(kind)
+                self.wishes.add(kind)
         if kind == 'soon':
             if not self.why and not self.held:
-                self.registry.ahead()
-            self.hear()                         # the next message comes before the first process does anything else
+                self.registry.connect_ahead()
+            self.receive()          # the next message comes before it does anything else
 
-    def came(self, s):
-        """Waits until something came from the registry, and hears the first process meanwhile."""
+    def wait_for(self, s: socket.socket) -> None:
+        """Waits until something came from the registry, and listens to the first process too."""
         self.poll.register(s, select.POLLIN)
         try:
             end = time.monotonic() + APPLY
             while True:
-                ready = self.told and self.poll.poll(SOON)
+                ready = self.poll.poll(SOON) if self.outcomes else []
                 if not ready:
-                    self.tell()                 # nobody waits for an outcome behind a slow entry
+                    self.send_outcomes()        # nobody waits for an outcome behind a slow entry
                     ready = self.poll.poll(1000 * max(0, end - time.monotonic()))
                 if not ready:
                     raise TimeoutError
-                for one, _ in ready:
-                    if one == self.pair.fileno():
-                        self.hear()
-                if len(ready) > 1 or ready[0][0] != self.pair.fileno():
+                if any(one == self.pair.fileno() for one, _ in ready):
+                    self.receive()
+                if any(one == s.fileno() for one, _ in ready):
                     return
         finally:
             self.poll.unregister(s)
 
     # -------------------------------------------------------------- what it does
 
-    def run(self):
-        self.tell_place()
-        while 'begin' not in self.asked:
+    def run(self) -> NoReturn:
+        self.send_place()
+        while 'begin' not in self.wishes:
             self.listen()
-        self.asked.discard('begin')
-        self.same_records()
-        self.again()
-        self.tell_place()
-        self.say('begun')
+        self.wishes.discard('begin')
+        self.verify_records()
+        self.apply_archive()
+        self.send_place()
+        self.send('ready')
         while True:
             if self.queue and not self.halted:
                 self.step(*self.queue.popleft())
             if not self.queue or self.halted:
                 self.rest()
-            if self.asked:
-                self.between()
+            if self.wishes:
+                self.fulfil()
 
-    def rest(self):
+    def rest(self) -> None:
         """There is nothing to apply."""
-        self.tell()
-        self.registry.leave()
-        if not self.asked:
+        self.send_outcomes()
+        self.registry.close()
+        if not self.wishes:
             self.listen()
         if self.halted:
             self.queue.clear()
 
-    def between(self):
-        """What the first process wants between two entries."""
-        self.tell()
-        self.registry.leave()
-        asked, self.asked = self.asked, set()
-        if 'sync' in asked:
+    def fulfil(self) -> None:
+        """Does what the first process wants between two entries."""
+        self.send_outcomes()
+        self.registry.close()
+        wishes, self.wishes = self.wishes, set()
+        if 'sync' in wishes:
             self.sync()
-            self.say('synced', self.place.n)
-        if 'hold' in asked:
+            self.send('synced', self.place.n)
+        if 'hold' in wishes:
             self.hold('asked')
 
-    def tell_place(self):
-        self.say('place', self.place.n, self.place.h, self.place.chain)
+    def send_place(self) -> None:
+        self.send('place', self.place.n, self.place.hash, self.place.chain)
 
-    def tell(self):
-        if self.told:
-            self.say('applied', self.told)
-            self.told = []
+    def send_outcomes(self) -> None:
+        if self.outcomes:
+            self.send('applied', self.outcomes)
+            self.outcomes = []
 
-    def halt(self, why):
+    def halt(self, why: str) -> None:
         """For good: an operator begins this replica from a copy."""
-        self.tell()
+        self.send_outcomes()
         self.halted = True
-        self.say('halted', why)
+        self.send('halted', why)
 
-    def waits(self, why):
+    def wait_because(self, why: str) -> None:
+        """Tells why nothing goes on, or with no text that it does again."""
         if why != self.why:
-            self.tell()
-            self.registry.leave()
+            self.send_outcomes()
+            self.registry.close()
             self.why = why
-            self.say('waits', why)
+            self.send('waits', why)
 
     # -------------------------------------------------------------- one entry
 
-    def step(self, line, entry=None, h=''):
-        """One entry: applied, archived, its place recorded, and its outcome told."""
+    def step(self, line: bytes, members: tuple[Any, ...] = (), hashed: str = '') -> None:
+        """One entry: applied, archived, its place recorded, and its outcome sent."""
         try:
-            entry = entries.Entry(*entry) if entry else entries.read_entry(line, self.key)
+            entry = Entry(*members) if members else entries.read_entry(line, self.key)
         except entries.Broken as fault:
             return self.halt(str(fault))
-        if (entry.n, entry.prev) != (self.place.n + 1, self.place.h):
-            return self.halt(f'entry {entry.n} does not follow entry {self.place.n} as it was applied here')
+        if (entry.n, entry.prev) != (self.place.n + 1, self.place.hash):
+            return self.halt(f'entry {entry.n} does not follow entry {self.place.n} '
+                             'as it was applied here')
         answer = self.apply(entry)
-        crash_once(entry.n)
-        self.finish(line, entry, h or entries.hash_of(line), answer)
-        if self.words.etcd and entry.n % self.words.digest == 0:
-            self.tell()
+        self.finish(line, entry, hashed or entries.hash_of(line), answer)
+        if self.options.etcd and entry.n % self.options.digest == 0:
+            self.send_outcomes()
             self.hold('digest')
 
-    def finish(self, line, entry, h, answer):
+    def finish(self, line: bytes, entry: Entry, hashed: str, answer: Answer) -> None:
         """What is left once the registry has decided an entry."""
         outcome = entries.decided(entry.route, answer.status, answer.body, self.place.chain)
-        is_plain = (entry.route, outcome.status) == entries.PLAIN
-        self.keep(line, entry, h, outcome)
-        self.told.append((entry.n, h, outcome.chain, entry.id, answer.status, answer.kind, answer.body))
-        if is_plain and not self.queue:
-            self.tell()                         # a crash before it is in place has it applied again at once: it is `repeated`, and so the same outcome
-        self.place.record(entry.n, h, outcome.chain)
-        if not is_plain or self.place.loose >= KEPT:
+        self.keep(line, entry, hashed, outcome)
+        self.outcomes.append((entry.n, hashed, outcome.chain, entry.id, answer.status, answer.kind,
+                              answer.body))
+        if is_plain(entry, outcome.status) and not self.queue:
+            # a crash before it is in place has it applied again at once: it is `repeated`, and so
+            # has the same outcome
+            self.send_outcomes()
+        self.place.record(entry.n, hashed, outcome.chain)
+        if not is_plain(entry, outcome.status) or self.place.loose >= KEPT:
             self.sync()
 
-    def apply(self, entry):
-        """The outcome of an entry, by the version of the program that it names: other versions may decide otherwise."""
-        while entry.method != 'VERSION' and entry.version != self.version:
-            self.waits(f'entry {entry.n} is applied by version {entry.version}, and the program here is {self.version}')
-            self.listen()
-        self.waits('')
-        return MOVED if entry.method == 'VERSION' else self.decided(entry)
+    def apply(self, entry: Entry) -> Answer:
+        """The outcome of an entry, by the version of the program that it names.
 
-    def decided(self, entry):
-        """The registry's outcome; while it has none, the same entry again. What the entry's role does not allow does not reach it."""
+        Other versions may decide otherwise.
+        """
+        while entry.method != 'VERSION' and entry.version != self.version:
+            self.wait_because(f'entry {entry.n} is applied by version {entry.version}, '
+                              f'and the program here is {self.version}')
+            self.listen()
+        self.wait_because('')
+        return MOVED if entry.method == 'VERSION' else self.decide(entry)
+
+    def decide(self, entry: Entry) -> Answer:
+        """The registry's outcome; while it has none, the same entry again.
+
+        What the entry's role does not allow does not reach it.
+        """
         if not roles.allows(entry.role, entry.method, entry.route, entry.body):
             return NOT_ALLOWED
         while True:
             try:
-                answer = self.registry.ask('POST', entry.route, entry.caller, entry.body, self.meanwhile)
+                answer = self.registry.call('POST', entry.route, entry.caller, entry.body,
+                                            self.meanwhile)
                 if answer.status in OUTCOMES:
                     return answer
                 why = f'answered {answer.status}'
             except BROKEN as fault:
                 why = f'{type(fault).__name__} {fault}'.strip()
-            if self.given_up(entry, why):
+            if self.is_given_up(entry, why):
                 return ASIDE
 
-    def given_up(self, entry, why):
-        """Whether an entry that the registry gave no outcome for is set aside: the first process says so, or has it asked again."""
-        self.tell()
-        self.registry.leave()
+    def is_given_up(self, entry: Entry, why: str) -> bool:
+        """Whether an entry without an outcome is set aside: the first process decides it."""
+        self.send_outcomes()
+        self.registry.close()
         self.verdict = ''
-        self.say('failed', tuple(entry), why)
+        self.send('failed', tuple(entry), why)
         while not self.verdict:
             self.listen()
         return self.verdict == 'aside'
 
-    def meanwhile(self):
-        """While the registry is at an entry: a connection for the next one, and the outcomes of those before are told."""
-        if self.queue and not self.asked:
-            self.registry.ahead()
-        if len(self.told) >= TOLD:
-            self.tell()
+    def meanwhile(self) -> None:
+        """While the registry is at an entry: a connection for the next one, and outcomes go."""
+        if self.queue and not self.wishes:
+            self.registry.connect_ahead()
+        if len(self.outcomes) >= TOGETHER:
+            self.send_outcomes()
 
-    def keep(self, line, entry, h, outcome):
-        """Into the archive. The place follows, and both are synced where the entry must not be applied again later."""
+    def keep(self, line: bytes, entry: Entry, hashed: str, outcome: Outcome) -> None:
+        """Into the archive. The place follows.
+
+        Both are synced where the entry must not be applied again later.
+        """
         while not self.archive.last or self.archive.last.entry.n < entry.n:
             try:
-                self.archive.add(line, entry, outcome, h)
-                self.waits('')
+                self.archive.add(line, entry, outcome, hashed)
+                self.wait_because('')
             except OSError as fault:
-                self.waits(f'the archive cannot be written: {fault}')
+                self.wait_because(f'the archive cannot be written: {fault}')
                 self.listen(0.5)
 
-    def sync(self):
+    def sync(self) -> None:
         self.archive.sync()
         self.place.sync()
 
     # -------------------------------------------------------------- at the start
 
-    def same_records(self):
-        """The last accepted request before the place is asked again: the records have it, or the database is older than the place."""
+    def verify_records(self) -> None:
+        """The last accepted request before the place is sent again.
+
+        The records have it, or the database is older than the place.
+        """
         last = self.archive.last
-        record = entries.last_plain(self.archive.folder) if last and last.entry.n == self.place.n else None
+        if not last or last.entry.n != self.place.n:
+            return
+        record = ends.last_plain(self.archive.folder)
         if record is None:
             return
-        answer = self.decided(record.entry)
-        if answer.status != 200 or answer.body != record.outcome.body.replace(b'"outcome":"accepted"', b'"outcome":"repeated"'):
-            self.halt(f'the database is older than the place: entry {record.entry.n} was accepted and is not in it; restore database and place together')
+        answer = self.decide(record.entry)
+        repeated = record.outcome.body.replace(b'"outcome":"accepted"', b'"outcome":"repeated"')
+        if answer.status != 200 or answer.body != repeated:
+            self.halt(f'the database is older than the place: entry {record.entry.n} was accepted '
+                      'and is not in it; restore database and place together')
 
-    def again(self):
-        """After a restore: the entries that are in the archive and not in the database. Each has to come to what it came to."""
+    def apply_archive(self) -> None:
+        """After a restore: the entries that are in the archive and not in the database.
+
+        Each has to come to what it came to.
+        """
         if self.halted or not self.archive.last or self.place.n >= self.archive.last.entry.n:
             return
-        print(f'entries {self.place.n + 1} to {self.archive.last.entry.n} are applied again', file=sys.stderr, flush=True)
+        print(f'entries {self.place.n + 1} to {self.archive.last.entry.n} are applied again',
+              file=sys.stderr, flush=True)
         for record in entries.read_archive(self.archive.folder, self.place.n, self.key):
-            if (record.entry.n, record.entry.prev) != (self.place.n + 1, self.place.h):
-                return self.halt(f'entry {record.entry.n} of the archive does not follow entry {self.place.n} as it was applied here')
-            told = Answer(record.outcome.status, '', record.outcome.body)
-            answer = told if record.entry.method == 'VERSION' or told.status == entries.SET_ASIDE else self.decided(record.entry)
-            outcome = entries.decided(record.entry.route, answer.status, answer.body, self.place.chain)
-            if outcome.chain != record.outcome.chain:
-                return self.halt(f'entry {record.entry.n} came to something else than before; restore database and place together')
-            self.place.record(record.entry.n, record.hash, outcome.chain)
-            if (record.entry.route, outcome.status) != entries.PLAIN or self.place.loose >= KEPT:
-                self.place.sync()
-                self.tell_place()
+            if why := self.apply_record(record):
+                return self.halt(why)
         self.place.sync()
+
+    def apply_record(self, record: Record) -> str:
+        """Applies one entry of the archive again; why it is not the same, where it is not."""
+        entry, known = record.entry, record.outcome
+        if (entry.n, entry.prev) != (self.place.n + 1, self.place.hash):
+            return (f'entry {entry.n} of the archive does not follow entry {self.place.n} '
+                    'as it was applied here')
+        is_decided = entry.method == 'VERSION' or known.status == entries.SET_ASIDE
+        answer = Answer(known.status, '', known.body) if is_decided else self.decide(entry)
+        outcome = entries.decided(entry.route, answer.status, answer.body, self.place.chain)
+        if outcome.chain != record.outcome.chain:
+            return (f'entry {entry.n} came to something else than before; '
+                    'restore database and place together')
+        self.place.record(entry.n, record.hash, outcome.chain)
+        if not is_plain(entry, outcome.status) or self.place.loose >= KEPT:
+            self.place.sync()
+            self.send_place()
+        return ''
 
     # -------------------------------------------------------------- the registry's file
 
-    def hold(self, why):
-        """Between an entry and the next nobody writes to the registry's file. One more answer shows that the registry has done with the entry before."""
-        self.registry.leave()
+    def hold(self, why: str) -> None:
+        """Between an entry and the next nobody writes to the registry's file.
+
+        One more answer shows that the registry has done with the entry before.
+        """
+        self.registry.close()
         self.settle()
         self.held = True
-        self.say('held', why, self.place.n, self.place.h, self.place.chain)
-        while 'go' not in self.asked:
+        self.send('held', why, self.place.n, self.place.hash, self.place.chain)
+        while 'go' not in self.wishes:
             self.listen()
-        self.asked.discard('go')
+        self.wishes.discard('go')
         self.held = False
 
-    def settle(self):
+    def settle(self) -> None:
         while True:
             try:
-                self.registry.ask('GET', '/', 'ISSUER')
-                return self.registry.leave()
+                self.registry.call('GET', '/', 'ISSUER')
+                return self.registry.close()
             except BROKEN:
                 self.listen(0.5)
 
 
-def crash_once(n):
-    """For trials: ends between the registry's commit and the record of n, once for each third n."""
-    if CRASH and n % 3 == 0 and (not os.path.exists(CRASH) or open(CRASH).read() != str(n)):
-        with open(CRASH, 'w') as file:
-            file.write(str(n))
-        os._exit(9)
+def start(options: Options, key: bytes) -> socket.socket:
+    """Forks the second process; the first one's end of the pair.
 
-
-def begun(words, key):
-    """The first process's end of the pair. In the second process it does not come back."""
+    In the second process it does not come back.
+    """
     near, far = socket.socketpair()
     if os.fork():
         far.close()
@@ -395,17 +375,21 @@ def begun(words, key):
     near.close()
     signal.signal(signal.SIGINT, signal.SIG_IGN)        # it ends with the first one
     try:
-        Applier(words, key, far).run()
+        Applier(options, key, far).run()
     except (entries.Broken, OSError) as fault:
         print(f'replica: {fault}', file=sys.stderr, flush=True)
-    except Exception:
-        sys.excepthook(*sys.exc_info())
+    except Exception as fault:
+        traceback.print_exception(fault)
     finally:
         os._exit(1)
 
 
-def first_place(pair):
-    """What the second process says first; where it says nothing, it has said why on standard error."""
-    for kind, *said in Frames().take(pair.recv(1024)):
-        return said
+def first_place(pair: socket.socket) -> Position:
+    """What the second process sends first.
+
+    Where it sends nothing, it has said why on standard error.
+    """
+    messages: Iterable[tuple[Any, ...]] = Frames().add(pair.recv(1024))
+    for _, n, hashed, chain in messages:
+        return Position(n, hashed, chain)
     sys.exit(1)

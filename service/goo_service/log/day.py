@@ -9,12 +9,14 @@ import collections
 import dataclasses
 import datetime
 import json
-import os
 import pathlib
 import re
 
-HEAD = 8192                     # bytes of a line in which time and caller stand
-SAID = re.compile(rb'"time":"([^"]*)".*?"caller":("(?:[^"\\]|\\.)*")')
+from goo_service.common.files import write_whole
+
+HEAD = 8192
+"""Bytes of a line in which time and caller stand."""
+MEMBERS = re.compile(rb'"time":"([^"]*)".*?"caller":("(?:[^"\\]|\\.)*")')
 
 
 def now() -> datetime.datetime:
@@ -23,8 +25,11 @@ def now() -> datetime.datetime:
 
 @dataclasses.dataclass
 class Sent:
+    """What each caller has sent on a day."""
+
     path: pathlib.Path
-    entry: int                                          # all entries up to this one are counted
+    entry: int
+    """All entries up to this one are counted."""
     day: str = ''
     logged: dict[str, int] = dataclasses.field(default_factory=dict)
     waiting: collections.Counter[str] = dataclasses.field(default_factory=collections.Counter)
@@ -36,6 +41,7 @@ class Sent:
         return self.logged.get(caller, 0) + self.waiting[caller]
 
     def turn(self) -> None:
+        """Begins the day, where it is another one."""
         today = now().date().isoformat()
         if self.day != today:
             self.day, self.logged, self.saved = today, {}, False
@@ -46,7 +52,7 @@ class Sent:
             return
         self.turn()
         self.entry, self.saved = n, False
-        found = SAID.search(line[:HEAD])
+        found = MEMBERS.search(line[:HEAD])
         if found and found[1][:10].decode() == self.day:
             caller = json.loads(found[2])
             self.logged[caller] = self.logged.get(caller, 0) + len(line)
@@ -62,23 +68,19 @@ class Sent:
             del self.waiting[caller]
 
     def save(self) -> None:
-        """Whole or not at all. After a power failure it may be older, and never without end."""
+        """Each second, so not synced: after a power failure the file may be older, or empty."""
         if self.saved:
             return
-        part = self.path.with_name(f'{self.path.name}.part')
-        said = {'day': self.day, 'entry': self.entry, 'bytes': self.logged}
-        with open(os.open(part, os.O_WRONLY | os.O_CREAT | os.O_TRUNC | os.O_NOFOLLOW, 0o640),
-                  'w', encoding='utf-8') as file:
-            file.write(json.dumps(said) + '\n')
-        os.replace(part, self.path)
+        counts = {'day': self.day, 'entry': self.entry, 'bytes': self.logged}
+        write_whole(self.path, json.dumps(counts) + '\n', is_synced=False)
         self.saved = True
 
 
-def kept(path: pathlib.Path, entry: int) -> Sent:
+def read(path: pathlib.Path, entry: int) -> Sent:
     """The counts of a file; without one, as if nothing had been sent up to `entry`."""
     try:
-        said = json.loads(path.read_text(encoding='utf-8'))
-        logged = {str(caller): int(size) for caller, size in said['bytes'].items()}
-        return Sent(path, int(said['entry']), str(said['day']), logged)
+        counts = json.loads(path.read_text(encoding='utf-8'))
+        logged = {str(caller): int(size) for caller, size in counts['bytes'].items()}
+        return Sent(path, int(counts['entry']), str(counts['day']), logged)
     except (OSError, ValueError, KeyError, TypeError, AttributeError):
         return Sent(path, entry)

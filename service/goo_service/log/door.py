@@ -1,198 +1,283 @@
-"""A replica's own door: takes in requests over HTTP/1.1, one for each connection, and sends the answers.
+"""A replica's own door: receives requests over HTTP/1.1, one on each connection, and answers them.
 
-The rules for what is answered by a status alone are the registry's (docs/HTTP.md). Of a request's head nothing goes on but the
-method, the path and four fields that the front door sets: GOO-Caller, GOO-User, GOO-Address and GOO-Role. Without a role it is
-`reads`, the least. A fifth one, GOO-Confirm, names a day that is confirmed on this host: it counts from root alone, and from this
+The rules for what is answered by a status alone are the registry's (docs/HTTP.md). Of a request's
+head nothing goes on but the method, the path and four fields that the front door sets: GOO-Caller,
+GOO-User, GOO-Address and GOO-Role. Without a role it is `reads`, the least. A fifth one,
+GOO-Confirm, names a day that is confirmed on this host: it counts from root alone, and from this
 process' own user, by the Unix socket. The front door sends none.
 """
-import asyncio, dataclasses, functools, math, os, re, socket, struct, time, typing
+import asyncio
+import functools
+import math
+import os
+import re
+import socket
+import struct
+import time
+from collections.abc import Callable
+from dataclasses import dataclass
+from typing import NamedTuple
+from typing import Protocol
+from typing import cast
 
+from goo_service.common.client import address_of
 from goo_service.log import bounds
-from goo_service.log.registry import Answer, address_of
+from goo_service.log.registry import Answer
 
-HEAD, FIELDS = 8192, 32                         # bytes and fields: the registry's own limits
-COMING = 64 << 20                               # bytes of all bodies that are being sent
-SEND = 10                                       # seconds to send a request, and to take the answer
-TEXT = "text/plain; charset=utf-8"
-PHRASES = {200: "OK", 400: "Bad Request", 403: "Forbidden", 404: "Not Found", 405: "Method Not Allowed", 409: "Conflict", 413: "Content Too Large",
-           429: "Too Many Requests", 500: "Internal Server Error", 501: "Not Implemented", 503: "Service Unavailable"}
-WHOLE = re.compile(r"([A-Z]+) ([!-~]+) HTTP/1\.([01])((?:\r\n[!#$%&'*+.^_`|~0-9A-Za-z-]+:[\t -~\x80-\xff]*)*)")
-CALLER = re.compile("[!-~]{0,40}")
-OURS = ("goo-caller", "goo-user", "goo-address", "goo-role", "goo-confirm")
+HEAD, FIELDS = 8192, 32
+"""Bytes and fields of a head: the registry's own limits."""
+COMING = 64 << 20
+"""Bytes of all bodies that are being sent."""
+SEND = 10
+"""Seconds to send a request, and to receive the answer."""
+BACKLOG = 512
+TEXT = 'text/plain; charset=utf-8'
+PHRASES = {
+    200: 'OK', 400: 'Bad Request', 403: 'Forbidden', 404: 'Not Found', 405: 'Method Not Allowed',
+    409: 'Conflict', 413: 'Content Too Large', 429: 'Too Many Requests',
+    500: 'Internal Server Error', 501: 'Not Implemented', 503: 'Service Unavailable'}
+WHOLE = re.compile(r"([A-Z]+) ([!-~]+) HTTP/1\.([01])"
+                   r"((?:\r\n[!#$%&'*+.^_`|~0-9A-Za-z-]+:[\t -~\x80-\xff]*)*)")
+CALLER = re.compile('[!-~]{0,40}')
+OURS = ('goo-caller', 'goo-user', 'goo-address', 'goo-role', 'goo-confirm')
+Fields = dict[str, object]
+"""Further fields of an answer."""
 
 
 class Refused(Exception):
-    """A request that goes no further. It has the answer and its further fields."""
+    """A request that goes no further."""
+
+    def __init__(self, answer: Answer, fields: Fields) -> None:
+        super().__init__(answer.status)
+        self.answer, self.fields = answer, fields
 
 
-def by_status(status):
+def by_status(status: int) -> Refused:
     return Refused(plain(status), {})
 
 
-@dataclasses.dataclass(eq=False, slots=True)
-class Call:
-    """A request that came whole."""
+class Head(NamedTuple):
+    """What of a request's head goes on."""
+
     method: str
     target: str
     caller: str
     user: str
     address: str
     role: str
-    confirmed: str                              # a day
-    body: bytes = b""
-    gone: bool = False                          # the client has closed its end
-    end: typing.Callable | None = None          # closes a connection that stays open after its answer
+    confirmed: str
+    """A day."""
 
 
-def plain(status, why=""):
-    return Answer(status, TEXT, (why or PHRASES[status]).encode() + b"\n")
+@dataclass(eq=False, slots=True)
+class Call:
+    """A request that came whole."""
+
+    method: str
+    target: str
+    caller: str
+    user: str
+    address: str
+    role: str
+    confirmed: str
+    body: bytes = b''
+    gone: bool = False
+    """The client has closed its end."""
+    close: Callable[[], None] | None = None
+    """Closes a connection that stays open after its answer."""
 
 
-def refused(refusal):
+class Reply(Protocol):
+    """Sends an answer with further fields, once for a call."""
+
+    def __call__(self, answer: Answer, fields: Fields, stays: bool = False) -> None:
+        """`stays`: the connection stays open until the call's `close`."""
+
+
+def plain(status: int, why: str = '') -> Answer:
+    return Answer(status, TEXT, (why or PHRASES[status]).encode() + b'\n')
+
+
+def refused(refusal: bounds.Refusal) -> tuple[Answer, Fields]:
     """The answer and the fields of what is out of bounds."""
-    return Answer(refusal.status, "application/json", refusal.body), refusal.fields
+    return Answer(refusal.status, 'application/json', refusal.body), {**refusal.fields}
 
 
 @functools.lru_cache(256)
-def head_of(text):
-    """Method, target, caller, user, address, role and confirmed day in a request's head, and the body's length. Most heads have come before."""
-    head = WHOLE.fullmatch(text.decode("latin-1"))
-    if not head or head[4].count("\r\n") > FIELDS:
+def head_of(text: bytes) -> tuple[Head, int]:
+    """The head of a request, and the length of its body. Most heads have come before."""
+    head = WHOLE.fullmatch(text.decode('latin-1'))
+    if not head or head[4].count('\r\n') > FIELDS:
         raise by_status(400)
-    named = {}
-    for line in head[4].split("\r\n")[1:]:
-        name, _, value = line.partition(":")
-        named.setdefault(name.lower(), []).append(value.strip(" \t"))
-    hosts = len(named.get("host", ()))
-    if hosts > 1 or hosts == 0 and head[3] == "1":
+    named: dict[str, list[str]] = {}
+    for line in head[4].split('\r\n')[1:]:
+        name, _, value = line.partition(':')
+        named.setdefault(name.lower(), []).append(value.strip(' \t'))
+    hosts = len(named.get('host', ()))
+    if hosts > 1 or hosts == 0 and head[3] == '1':
         raise by_status(400)
-    if "transfer-encoding" in named:
+    if 'transfer-encoding' in named:
         raise by_status(501)
-    length = length_of(named.get("content-length", ["0"]))
+    length = length_of(named.get('content-length', ['0']))
     if any(len(named.get(name, ())) > 1 for name in OURS):
-        named.pop("goo-caller", None)           # two of one: nobody knows which the front door set, so there is no caller
-    caller, user, address, role, confirmed = (named.get(name, [""])[0] for name in OURS)
-    return (head[1], head[2], caller if CALLER.fullmatch(caller) else "", words(user), words(address), role or "reads", confirmed), length
+        # two of one: nobody knows which the front door set, so there is no caller
+        named.pop('goo-caller', None)
+    caller, user, address, role, confirmed = (named.get(name, [''])[0] for name in OURS)
+    caller = caller if CALLER.fullmatch(caller) else ''
+    return Head(head[1], head[2], caller, readable(user), readable(address), role or 'reads',
+                confirmed), length
 
 
-def length_of(said):
-    if len(said) > 1 or not re.fullmatch("[0-9]{1,19}", said[0]):
+def length_of(values: list[str]) -> int:
+    if len(values) > 1 or not re.fullmatch('[0-9]{1,19}', values[0]):
         raise by_status(400)
-    if refusal := bounds.of_length(int(said[0])):
+    if refusal := bounds.of_length(int(values[0])):
         raise Refused(*refused(refusal))
-    return int(said[0])
+    return int(values[0])
 
 
-def may_confirm(transport):
-    """Whether root, or this process' own user, is at the other end. Whoever else reaches the socket acts for people who sign in."""
-    s = transport.get_extra_info("socket")
+def readable(field: str) -> str:
+    return field.encode('latin-1').decode('utf-8', 'replace')[:255]
+
+
+def may_confirm(transport: asyncio.BaseTransport) -> bool:
+    """Whether root, or this process' own user, is at the other end.
+
+    Whoever else reaches the socket acts for people who sign in.
+    """
+    s = transport.get_extra_info('socket')
     if s is None or s.family != socket.AF_UNIX:
         return False
-    return struct.unpack("3i", s.getsockopt(socket.SOL_SOCKET, socket.SO_PEERCRED, 12))[1] in (0, os.geteuid())
-
-
-def words(field):
-    return field.encode("latin-1").decode("utf-8", "replace")[:255]
+    peer = struct.unpack('3i', s.getsockopt(socket.SOL_SOCKET, socket.SO_PEERCRED, 12))
+    return peer[1] in (0, os.geteuid())
 
 
 class Connection(asyncio.Protocol):
     """One request, and its answer."""
 
-    def __init__(self, door):
-        self.door, self.came, self.call, self.begin, self.end, self.whole, self.answered = door, bytearray(), None, 0, 0, False, False
-        self.length = 0                         # of a body that is being sent
+    transport: asyncio.Transport
 
-    def connection_made(self, transport):
-        self.transport, self.until = transport, time.monotonic() + SEND
+    def __init__(self, door: 'Door') -> None:
+        self.door, self.received = door, bytearray()
+        self.call: Call | None = None
+        self.begin = self.end = 0               # of the body
+        self.whole = self.answered = False
+        self.length = 0                         # of a body that is being sent
+        self.until = 0.0
+
+    def connection_made(self, transport: asyncio.BaseTransport) -> None:
+        self.transport = cast(asyncio.Transport, transport)
+        self.until = time.monotonic() + SEND
         self.door.open.add(self)
 
-    def data_received(self, data):
+    def data_received(self, data: bytes) -> None:
         if not self.whole and not self.answered:
-            self.came += data
+            self.received += data
             try:
                 self.look()
             except Refused as refusal:
-                self.answer(*refusal.args)
+                self.answer(refusal.answer, refusal.fields)
 
-    def look(self):
-        if self.call is None:
-            end = self.came.find(b"\r\n\r\n", 0, HEAD)
-            if end < 0:
-                if len(self.came) >= HEAD:
-                    raise by_status(400)
-                return
-            fields, length = head_of(bytes(self.came[:end]))
-            if self.door.coming + length > COMING:
-                raise by_status(503)
-            self.length, self.door.coming = length, self.door.coming + length
-            self.call, self.begin, self.end = Call(*fields), end + 4, end + 4 + length
-            if self.call.confirmed and not may_confirm(self.transport):
-                self.call.confirmed = ""
-        if len(self.came) >= self.end:
-            self.call.body = bytes(self.came[self.begin:self.end])
-            self.leave()
-            self.whole, self.until = True, math.inf
-            self.door.serve(self.call, self.answer)
+    def look(self) -> None:
+        """Serves the request, once all of it came."""
+        call = self.call or self.begun()
+        if call is None or len(self.received) < self.end:
+            return
+        call.body = bytes(self.received[self.begin:self.end])
+        self.forget()
+        self.whole, self.until = True, math.inf
+        self.door.serve(call, self.answer)
 
-    def leave(self):
+    def begun(self) -> Call | None:
+        """The request without its body, once its head came."""
+        end = self.received.find(b'\r\n\r\n', 0, HEAD)
+        if end < 0:
+            if len(self.received) >= HEAD:
+                raise by_status(400)
+            return None
+        head, length = head_of(bytes(self.received[:end]))
+        if self.door.coming + length > COMING:
+            raise by_status(503)
+        self.length, self.door.coming = length, self.door.coming + length
+        self.call, self.begin, self.end = Call(*head), end + 4, end + 4 + length
+        if self.call.confirmed and not may_confirm(self.transport):
+            self.call.confirmed = ''
+        return self.call
+
+    def forget(self) -> None:
         """Nothing more of the request is kept here."""
         self.door.coming -= self.length
-        self.came, self.length = b"", 0
+        self.received, self.length = bytearray(), 0
 
-    def eof_received(self):
+    def eof_received(self) -> bool:
         if self.call:
             self.call.gone = True
         if not self.whole and not self.answered:
             self.answer(plain(400), {})
         return True
 
-    def connection_lost(self, fault):
+    def connection_lost(self, fault: Exception | None) -> None:
         self.door.open.discard(self)
-        self.leave()
+        self.forget()
         if self.call:
             self.call.gone = True
 
-    def answer(self, answer, fields, stays=False):
-        """Sends the answer with further fields, and closes once all of it is sent. Where it stays open, whoever called closes it by `end`."""
-        self.leave()
+    def answer(self, answer: Answer, fields: Fields, stays: bool = False) -> None:
+        """Sends the answer with further fields, and closes once all of it is sent."""
+        self.forget()
         self.answered, self.until = True, math.inf if stays else time.monotonic() + SEND
         if self.transport.is_closing():
             return                              # the client has gone
-        if answer.allow:
-            fields["Allow"] = answer.allow
-        more = "".join([f"{name}: {value}\r\n" for name, value in fields.items()])
-        head = f"HTTP/1.1 {answer.status} {PHRASES.get(answer.status, 'Other')}\r\nContent-Type: {answer.kind}\r\n{more}Content-Length: {len(answer.body)}\r\nConnection: {'keep-alive' if stays else 'close'}\r\n\r\n"
-        self.transport.write(head.encode("latin-1") + (b"" if self.call and self.call.method == "HEAD" else answer.body))
-        if stays:
-            self.call.end = self.transport.abort
-        else:
+        has_body = not (self.call and self.call.method == 'HEAD')
+        self.transport.write(head_text(answer, fields, stays) + (answer.body if has_body else b''))
+        if not stays:
             self.transport.close()
+        elif self.call:
+            self.call.close = self.transport.abort
+
+
+def head_text(answer: Answer, fields: Fields, stays: bool) -> bytes:
+    """The head of an answer."""
+    if answer.allow:
+        fields = {**fields, 'Allow': answer.allow}
+    more = ''.join([f'{name}: {value}\r\n' for name, value in fields.items()])
+    head = (f'HTTP/1.1 {answer.status} {PHRASES.get(answer.status, "Other")}\r\n'
+            f'Content-Type: {answer.kind}\r\n{more}Content-Length: {len(answer.body)}\r\n'
+            f'Connection: {"keep-alive" if stays else "close"}\r\n\r\n')
+    return head.encode('latin-1')
 
 
 class Door:
-    """Takes in connections. `serve(call, answer)` is told of each request that came whole, and calls `answer` once with the answer and further fields."""
+    """Receives connections. `serve` gets each request that came whole, and replies once to it."""
 
-    def __init__(self, serve):
-        self.serve, self.open, self.coming = serve, set(), 0
+    def __init__(self, serve: Callable[[Call, Reply], None]) -> None:
+        self.serve, self.coming = serve, 0
+        self.open: set[Connection] = set()
 
-    def connection(self):
+    def connection(self) -> Connection:
         return Connection(self)
 
-    async def sweep(self):
-        """Cuts off who takes too long to send a request, or to take the answer."""
+    async def sweep(self) -> None:
+        """Cuts off who takes too long to send a request, or to receive the answer."""
         while True:
             await asyncio.sleep(1)
             for one in [one for one in self.open if one.until < time.monotonic()]:
                 one.transport.abort()
 
-    async def listen(self, listen):
+    async def listen(self, listen: str) -> asyncio.Server:
         """A server at a path, at HOST:PORT, or at the socket that systemd has opened for us."""
         loop = asyncio.get_running_loop()
-        if os.environ.get("LISTEN_FDS") == "1" and os.environ.get("LISTEN_PID") == str(os.getpid()):
+        if is_opened_by_systemd():
             given = socket.socket(fileno=3)
-            begin = loop.create_unix_server if given.family == socket.AF_UNIX else loop.create_server
-            return await begin(self.connection, sock=given, backlog=512)
-        family, address = address_of(listen)
-        if family == socket.AF_UNIX:
-            return await loop.create_unix_server(self.connection, address, backlog=512)
-        return await loop.create_server(self.connection, *address, backlog=512)
+            if given.family == socket.AF_UNIX:
+                return await loop.create_unix_server(self.connection, sock=given, backlog=BACKLOG)
+            return await loop.create_server(self.connection, sock=given, backlog=BACKLOG)
+        _, address = address_of(listen)
+        if isinstance(address, str):
+            return await loop.create_unix_server(self.connection, address, backlog=BACKLOG)
+        return await loop.create_server(self.connection, *address, backlog=BACKLOG)
+
+
+def is_opened_by_systemd() -> bool:
+    own = str(os.getpid())
+    return os.environ.get('LISTEN_FDS') == '1' and os.environ.get('LISTEN_PID') == own

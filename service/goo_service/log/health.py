@@ -1,27 +1,46 @@
-"""What a replica says of itself: /healthz for a balancer and for goo-health, /metrics in Prometheus' text form."""
+"""What a replica says of itself.
+
+/healthz is for a balancer and for goo-health, /metrics has Prometheus' text form.
+"""
 import json
+from typing import TYPE_CHECKING
 
 from goo_service.log.registry import Answer
 
-BEHIND = 1000                   # entries
-TOTALS = ("writes", "reads", "applied", "again", "aside", "overtaken", "role_refused", "beyond")
+if TYPE_CHECKING:
+    from goo_service.log.replica import Replica
+
+BEHIND = 1000
+"""Entries that the place may be behind the log."""
+TOTALS = ('writes', 'reads', 'applied', 'again', 'aside', 'overtaken', 'role_refused', 'beyond')
+METRICS = 'text/plain; version=0.0.4; charset=utf-8'
 
 
-def health(replica):
+def health(replica: 'Replica') -> Answer:
     """200 where requests are taken, else 503 with the reason."""
-    end, why = replica.store.last.n, replica.halted if replica.words.reads_only else replica.trouble()
-    behind = max(0, end - replica.place.n)
-    said = {"replica": replica.words.name, "entry": replica.place.n, "end": end, "behind": behind, "ok": not why, "why": why, "hash": replica.place.h, "chain": replica.place.chain,
-            "version": replica.version, "aside": replica.counts["aside"], "digest": replica.undigested}
-    return Answer(503 if why or behind > BEHIND else 200, "application/json", json.dumps(said).encode() + b"\n")
+    place, end = replica.place, replica.store.last.n
+    why = replica.halted if replica.options.reads_only else replica.trouble()
+    behind = max(0, end - place.n)
+    state = {'replica': replica.options.name, 'entry': place.n, 'end': end, 'behind': behind,
+             'ok': not why, 'why': why, 'hash': place.hash, 'chain': place.chain,
+             'version': replica.version, 'aside': replica.counts['aside'],
+             'digest': replica.digests.undigested}
+    status = 503 if why or behind > BEHIND else 200
+    return Answer(status, 'application/json', json.dumps(state).encode() + b'\n')
 
 
-def metrics(replica):
+def metrics(replica: 'Replica') -> Answer:
     """The longest wait is the one since somebody last looked."""
-    place, last = replica.place, replica.store.last
-    gauges = {"entry": place.n, "end": last.n, "lag_entries": max(0, last.n - place.n), "quorum": int(replica.store.quorum), "ok": int(not replica.trouble()),
-              "halted": int(bool(replica.halted or replica.outvoted)), "waiting": len(replica.pending), "longest_wait_seconds": round(replica.longest, 6), **replica.store.figures()}
-    replica.longest = 0.0
-    text = "".join(f"# TYPE goo_replica_{name} gauge\ngoo_replica_{name} {value}\n" for name, value in gauges.items())
-    text += "".join(f"# TYPE goo_replica_{name}_total counter\ngoo_replica_{name}_total {replica.counts[name]}\n" for name in TOTALS)
-    return Answer(200, "text/plain; version=0.0.4; charset=utf-8", text.encode())
+    place, last, requests = replica.place, replica.store.last, replica.requests
+    gauges: dict[str, float] = {
+        'entry': place.n, 'end': last.n, 'lag_entries': max(0, last.n - place.n),
+        'quorum': int(replica.store.quorum), 'ok': int(not replica.trouble()),
+        'halted': int(bool(replica.halted or replica.outvoted)),
+        'waiting': len(requests.pending), 'longest_wait_seconds': round(requests.longest, 6),
+        **replica.store.figures()}
+    requests.longest = 0.0
+    lines = [f'# TYPE goo_replica_{name} gauge\ngoo_replica_{name} {value}\n'
+             for name, value in gauges.items()]
+    lines += [f'# TYPE goo_replica_{name}_total counter\n'
+              f'goo_replica_{name}_total {replica.counts[name]}\n' for name in TOTALS]
+    return Answer(200, METRICS, ''.join(lines).encode())

@@ -1,15 +1,17 @@
-"""Takes an entry and all after it out of log and archive, and sends those after it again: for `restore COPY --before N`.
+"""Removes an entry and all after it from log and archive, and sends those after it again.
 
-What is taken out stays whole beside them, in a folder `undone-N-TIME` of the replica's state:
+`restore COPY --before N` does so. What is removed stays whole beside them, in a folder
+`undone-N-TIME` of the replica's state:
 
   archive/    the archive as it was
   log/        the log as it was
   sent        there once all that came after entry N was sent again
 
-All of it is the work of the user that owns the state folder. A cut-off is no harm: a replica does not start between the steps, since its
-place, its log and its archive do not fit, and the same command goes on with the folder that has no `sent`.
+All of it is the work of the user that owns the state folder. A cut-off is no harm: a replica does
+not start between the steps, since its place, its log and its archive do not fit, and the same
+command goes on with the folder that has no `sent`.
 """
-import http.client
+import contextlib
 import json
 import os
 import re
@@ -19,34 +21,30 @@ from collections.abc import Iterator
 from dataclasses import dataclass
 from pathlib import Path
 
+from goo_service.common.client import Client
+from goo_service.common.client import NoAnswer
+from goo_service.common.files import sync_folder
+from goo_service.common.files import write_whole
+from goo_service.common.owner import remove
 from goo_service.log import entries
 from goo_service.log import file_store
 from goo_service.log import position
 from goo_service.log import roles
-from goo_service.common.files import sync_folder
-from goo_service.common.owner import remove
-from goo_service.log.hold import Door
+from goo_service.log.position import Position
 
 UNDONE = re.compile(r'undone-(\d+)-.+')
 AGAIN = (200, 403, 409)
 """Outcomes of entries that are sent again. The others changed nothing and would change nothing."""
-TRIES = 300
-"""How often a request is sent while the replica takes none, a second each."""
-
-
-@dataclass(frozen=True)
-class Point:
-    """An entry in the archive: its hash, and the chain of outcomes up to it."""
-    n: int
-    hash: str
-    chain: str
+TRIES, PATIENCE = 300, 600
+"""How often a request is sent while the replica takes none, a second each; seconds for an answer."""
 
 
 @dataclass(frozen=True)
 class Sent:
     """An entry that was sent again, and what it came to."""
     record: entries.Record
-    entry: int | None
+    entry: int
+    """0 where it was not taken into the log."""
     status: int
     body: bytes
 
@@ -55,7 +53,7 @@ class Sent:
         return (entries.comparable(route, self.status, self.body)
                 == entries.comparable(route, outcome.status, outcome.body))
 
-    def told(self) -> str:
+    def in_words(self) -> str:
         entry, outcome = self.record.entry, self.record.outcome
         number = f'now entry {self.entry}' if self.entry else 'not taken into the log'
         return (f'entry {entry.n}, {number}: {entry.user or "an agent"} as {entry.caller}, '
@@ -79,7 +77,7 @@ def named(entry: entries.Entry) -> str:
 # ------------------------------------------------------------------ out of log and archive
 
 def under_way(state: Path) -> tuple[int, Path] | None:
-    """The entry that is being undone, and the folder of what was taken out, where a run was cut off."""
+    """The entry that is being undone, and the folder of what was removed, of a run cut off."""
     folders = [path for path in sorted(state.glob('undone-*')) if UNDONE.fullmatch(path.name)]
     left = [path for path in folders if not (path / 'sent').exists()]
     return (number_of(left[-1]), left[-1]) if left else None
@@ -91,19 +89,22 @@ def number_of(folder: Path) -> int:
     return int(found[1])
 
 
-def point_before(archive: Path, n: int) -> Point:
+def point_before(archive: Path, n: int) -> Position:
     """The entry before n, which has to be in the archive, as n has to be."""
     before = None
     for record in entries.read_archive(archive, n - 2):
         if record.entry.n == n - 1:
-            before = Point(n - 1, record.hash, record.outcome.chain)
+            before = Position(n - 1, record.hash, record.outcome.chain)
         if record.entry.n == n and (before or n == 1):
-            return before or Point(0, record.entry.prev, entries.NO_CHAIN)
+            return before or Position(0, record.entry.prev, entries.NO_CHAIN)
     raise entries.Broken(f'{archive}: there is no entry {n} behind an entry {n - 1}')
 
 
-def take_out(state: Path, n: int, first_line: Callable[[Point], bytes]) -> str:
-    """Entry n and all after it leave log and archive. A new log begins after n - 1 with the line that `first_line` makes."""
+def remove_from(state: Path, n: int, first_line: Callable[[Position], bytes]) -> str:
+    """Entry n and all after it leave log and archive.
+
+    A new log begins after n - 1 with the line that `first_line` makes.
+    """
     there = under_way(state)
     if there and there[0] != n:
         raise entries.Broken(f'{there[1]}: entry {there[0]} is being undone: end that first')
@@ -119,7 +120,10 @@ def take_out(state: Path, n: int, first_line: Callable[[Point], bytes]) -> str:
 
 
 def keep(state: Path, n: int) -> Path:
-    """The archive and the log as they are, in a folder of their own. It takes no room: the files have two names each."""
+    """The archive and the log as they are, in a folder of their own.
+
+    It takes no room: the files have two names each.
+    """
     point_before(state / 'archive', n)
     part = state / 'undone.part'
     remove(part)
@@ -136,7 +140,10 @@ def keep(state: Path, n: int) -> Path:
 
 
 def cut(archive: Path, n: int) -> None:
-    """Leaves the entries before n in an archive. The file that is the last one then is written anew: the other folder keeps what it was."""
+    """Leaves the entries before n in an archive.
+
+    The file that is the last one then is written anew: the other folder keeps what it was.
+    """
     for path in reversed(entries.months(archive)):
         part = archive / f'.{path.name[:7]}.part'
         with open(part, 'wb') as file:
@@ -159,7 +166,10 @@ def cut(archive: Path, n: int) -> None:
 
 
 def set_log_aside(state: Path, folder: Path) -> None:
-    """The log as it was has a second name in the folder. One of a run that was cut off is empty but for its first entry."""
+    """The log as it was has a second name in the folder.
+
+    One of a run that was cut off is empty but for its first entry.
+    """
     log = state / 'log'
     if log.exists():
         log.rename(folder / f'log-{time.time_ns()}')
@@ -174,9 +184,7 @@ def set_request_aside(state: Path, folder: Path, n: int) -> None:
     path = state / 'aside'
     earlier = path.read_text() if path.exists() else ''
     if line not in earlier:
-        part = state / 'aside.part'
-        part.write_text(earlier + line)
-        part.replace(path)
+        write_whole(path, earlier + line)
 
 
 # ------------------------------------------------------------------ again
@@ -194,18 +202,13 @@ def send(door: str, records: Iterator[entries.Record]) -> Iterator[Sent]:
 def send_one(door: str, record: entries.Record, role: str) -> Sent:
     """One request as its user, until it has an outcome."""
     entry = record.entry
-    fields = {'GOO-Caller': entry.caller, 'GOO-User': entry.user.encode(),
-              'GOO-Address': entry.address.encode(), 'GOO-Role': role}
+    client = Client(door, PATIENCE, fields={
+        'GOO-Caller': entry.caller, 'GOO-User': entry.user, 'GOO-Address': entry.address,
+        'GOO-Role': role})
     for _ in range(TRIES):
-        try:
-            connection = Door(door, 600)
-            connection.request('POST', entry.route, entry.body, fields)
-            answer = connection.getresponse()
-            body, number = answer.read(), answer.getheader('GOO-Entry')
-            connection.close()
+        with contextlib.suppress(NoAnswer):
+            answer = client.post(entry.route, entry.body)
             if answer.status != 503:
-                return Sent(record, int(number) if number else None, answer.status, body)
-        except (OSError, http.client.HTTPException):
-            pass
+                return Sent(record, answer.entry, answer.status, answer.body)
         time.sleep(1)
     raise entries.Broken(f'entry {entry.n}: no outcome when it was sent again')

@@ -1,21 +1,28 @@
-"""What a role lets a caller do. The third word of a line in callers says the role; nginx sends it on as GOO-Role."""
+"""What a role lets a caller do.
+
+The third word of a line in callers is the role; nginx sends it on as GOO-Role.
+"""
 import json
 
 
-def allows(role, method, route, body):
-    """`full`, or no word: everything the registry allows. `reads`: GET alone. `declares`: declarations alone. Another word: nothing."""
-    if role in ("", "full"):
+def allows(role: str, method: str, route: str, body: bytes) -> bool:
+    """`full`, or no word: everything the registry allows.
+
+    `reads`: GET alone. `declares`: declarations alone. Another word: nothing.
+    """
+    if role in ('', 'full'):
         return True
-    if role == "reads":
-        return method == "GET"
-    return role == "declares" and method == "POST" and (route == "/v1/declarations" or command_of(body) == "declare")
+    if role == 'reads':
+        return method == 'GET'
+    return (role == 'declares' and method == 'POST'
+            and (route == '/v1/declarations' or command_of(body) == 'declare'))
 
 
-def command_of(body):
+def command_of(body: bytes) -> object:
     """The command of a request; None where the body has none, two of them, or can't be read."""
     try:
         members = json.loads(body, object_pairs_hook=list)
-        commands = [value for name, value in members if name == "command"]
+        commands = [value for name, value in members if name == 'command']
         return commands[0] if len(commands) == 1 else None
     except (ValueError, TypeError, RecursionError):
         return None

@@ -12,6 +12,7 @@ from pathlib import Path
 
 from goo_service.common.client import Client
 from goo_service.common.client import NoAnswer
+from goo_service.log import ends
 from goo_service.log import entries
 from goo_service.records.schema import Mismatch
 
@@ -89,7 +90,7 @@ def check_first_entry(archive: Path, place: Place) -> None:
 def last_number(archive: Path) -> int:
     """The number of the last whole entry of an archive, 0 where there is none."""
     for path in reversed(entries.months(archive)):
-        number = entries.last_of(path, entries.number_in, size=END)[0]
+        number = ends.last_of(path, entries.number_in, size=END)[0]
         if number:
             return int(number)
     return 0

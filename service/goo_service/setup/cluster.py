@@ -1,5 +1,4 @@
 """Three hosts with one log over etcd: what the first one makes for the others, how each of them joins, and how a new version is begun."""
-import argparse
 import ipaddress
 import json
 import pathlib
@@ -9,8 +8,8 @@ import subprocess
 import tempfile
 import time
 
-from goo_service.log import etcd_store
-from goo_service.log import file_store
+from goo_service.log.options import EtcdOptions
+from goo_service.log.store import NoAnswer
 from goo_service.common.programs import words_of
 from goo_service.setup.common import (COPIES, ETC, FIRST, LED, LOG, REGISTRY, REPLICA, REPLICA_WORDS, SECONDS, SHARE, Refused, as_user, code_of_registry, holds_registry, is_active, run, says, tell, word_of,
                           words_of_log, write)
@@ -257,12 +256,13 @@ def found_log(file):
 
 def log_version():
     """The version that applies the next entry, by etcd."""
+    from goo_service.log import etcd            # which one host does without
     words = words_of_log()
-    said = argparse.Namespace(etcd=word_of(words, '--etcd'), ca=word_of(words, '--ca'), cert=word_of(words, '--cert'), cert_key=word_of(words, '--cert-key'))
-    end = etcd_store.Keys(int(word_of(words, '--code'))).end
+    options = EtcdOptions(etcd=word_of(words, '--etcd'), ca=word_of(words, '--ca'), cert=word_of(words, '--cert'), cert_key=word_of(words, '--cert-key'))
+    end = etcd.Keys(int(word_of(words, '--code'))).end
     try:
-        return etcd_store.end_in(etcd_store.one(said, 'kv/range', etcd_store.get(end)['request_range'])).version
-    except file_store.NoAnswer as fault:
+        return etcd.end_in(etcd.one(options, 'kv/range', etcd.range_of(end))).version
+    except NoAnswer as fault:
         raise Refused(f'etcd: {fault}') from fault
 
 

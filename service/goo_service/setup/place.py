@@ -5,24 +5,26 @@ replica does not run.
 import pathlib
 import sys
 
+from goo_service.log import ends
 from goo_service.log import entries
-from goo_service.log import file_store
 from goo_service.log.position import Place
+from goo_service.log.store import Point
+from goo_service.log.store import after
 
 
-def end_of(log: pathlib.Path) -> file_store.Point | None:
+def end_of(log: pathlib.Path) -> Point | None:
     """The end of a log of files; None where there is none, as on each of three hosts."""
     for path in sorted(log.glob('*.jsonl'), reverse=True):
-        line, _ = entries.last_of(path, lambda line: line if entries.read_entry(line) else None)
+        line, _ = ends.last_of(path, lambda line: line if entries.read_entry(line) else None)
         if line:
-            return file_store.after(entries.read_entry(line), line)
+            return after(entries.read_entry(line), line)
     return None
 
 
 def main() -> int:
     state = pathlib.Path(sys.argv[1])
     try:
-        place = Place(state / 'place', None)
+        place = Place(state / 'place')
         place.close()
         end = end_of(state / 'log')
         print(place.n, end.n if end else place.n, end.version if end else '')
