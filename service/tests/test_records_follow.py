@@ -101,7 +101,9 @@ def test_a_start_reads_the_new_entries_alone(tmp_path: Path,
     for number in range(10_000):
         answer = b'{"fault":"NotJson","outcome":"unreadable"}'
         made.take(made.record('SUN', '/v1/requests', b'%d' % number, 400, answer))
-    follow.follow(words(tmp_path / 'book', tmp_path / 'archive'))
+    # Its thread goes on to look for more, so it has an archive of its own.
+    shorter = write_archive(tmp_path / 'shorter', lines_of(tmp_path / 'archive'))
+    follow.follow(words(tmp_path / 'book', shorter))
     for number in range(7):
         made.take(made.record('SUN', '/v1/requests', b'new', 400, answer))
     longer = write_archive(tmp_path / 'longer', lines_of(tmp_path / 'archive'))
