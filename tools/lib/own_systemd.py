@@ -95,6 +95,7 @@ def become_systemd(folder: Path, words: list[str]) -> None:
     make_devices(root / 'dev')
     for left in (root / 'var/lib').glob('goo*'):        # what another program left on this machine
         shutil.rmtree(left)
+    (root / 'var/lib/man-db/auto-update').unlink(missing_ok=True)       # an index of pages takes long
     make_units(root, words)
     for name in ('docs', 'tools'):
         shutil.copytree(HOME / name, root / 'trial' / name)
