@@ -37,7 +37,7 @@ class Unreadable(ValueError):
 
 @dataclass(frozen=True)
 class Beginning:
-    """The date that a registry was begun with, and whether it is known or the earliest that fits."""
+    """The date that a registry was begun with; the earliest that fits, where it is not known."""
 
     day: str
     is_known: bool
