@@ -472,7 +472,7 @@ def test_a_copy_is_the_live_file(log_house: House) -> None:
     subprocess.run([GOO, 'audit', '--db', house.db], check=True, capture_output=True)
     assert dumped(newest(house) / 'registry.db') == dumped(house.db)
     place = json.loads((newest(house) / 'place.json').read_text())
-    assert place.n == entries.number_in(
+    assert place['n'] == entries.number_in(
         entries.months(house.state / 'archive')[-1].read_bytes().splitlines()[-1])
 
 

@@ -13,10 +13,10 @@ TOP = Path(__file__).resolve().parents[2]
 sys.path.insert(0, str(TOP / 'service'))
 import mutations
 import readings
-from goo_service.copies import recount
+from goo_service.copies import expected
 from client import response
 from readings import Fault, compact
-from goo_service.common.rules import ISSUER, LOT, PLACES, Again, Registry, Wrong, reply
+from goo_service.common.rules import ISSUER, LOT, PLACES, Again, Registry, Wrong, joined, reply
 
 
 CODES = {name: int(code) for code, name in re.findall(r'^\| (\d+) \| `(\w+)` \|', (TOP / 'docs/REGISTRY.md').read_text(encoding='utf-8'), re.M)}
@@ -101,17 +101,17 @@ class Model:
         """The statement of an account, or None where there is none."""
         if account not in self.registry.accounts:
             return None
-        return recount.statement_text(self.registry, account, [run for run in self.runs() if run[3].account == account]).encode()
+        return expected.statement_text(self.registry, account, [run for run in self.runs() if run[3].account == account]).encode()
 
     def document(self, number):
         """The document of a cancellation, or None."""
         if number not in self.registry.cancellations:
             return None
         _, first, last, *_ = self.registry.cancellations[number]
-        return recount.document_text(self.registry, number, recount.joined(run[:3] for run in self.registry.certificates.within(first, last))).encode()
+        return expected.document_text(self.registry, number, joined(run[:3] for run in self.registry.certificates.within(first, last))).encode()
 
     def audit(self):
-        return recount.audit_text(self.registry).encode()
+        return expected.audit_text(self.registry).encode()
 
     def notice(self, number):
         """The notice of an export, or None."""
@@ -133,7 +133,7 @@ class Model:
     def rows(self):
         """The rows of each table, as recount reads them, and the kept requests."""
         kept = [(*of, text.encode(), *answer) for of, (text, answer) in self.receipts.items()]
-        return {**{name: list(rows) for name, rows in recount.rows_of(self.registry).items()}, 'receipt': kept}
+        return {**{name: list(rows) for name, rows in expected.rows_of(self.registry).items()}, 'receipt': kept}
 
     # HTTP
 
@@ -184,7 +184,7 @@ class Model:
 def rows_in(file):
     """The rows of a registry's file as a model has them, the kept requests in their order."""
     with closing(sqlite3.connect(file)) as database:
-        found = {name: database.execute(query).fetchall() for name, query in recount.ROWS.items()}
+        found = {name: database.execute(query).fetchall() for name, query in expected.ROWS.items()}
         found['receipt'] = database.execute('SELECT caller, key, command, kind, n1, n2, n3 FROM receipt ORDER BY rowid').fetchall()
     return found
 
@@ -193,7 +193,7 @@ def table_faults(name, wanted, found):
     """Where the rows of a table are not the wanted ones."""
     if found == wanted:
         return []
-    return recount.table_faults(name, wanted, found) or (['in another order'] if name == 'receipt' else [])
+    return expected.table_faults(name, wanted, found) or (['in another order'] if name == 'receipt' else [])
 
 
 def row_faults(rows, file):

@@ -28,7 +28,8 @@ def write_whole(path: Path, content: str | bytes, mode: int = 0o640, owner: Owne
     """Writes a file under its name at once. Nobody else reads it before, or with another mode.
 
     A crash leaves the file as it was, or as it is now, and perhaps the part beside it, which the
-    next call removes. Without `is_synced` a power failure may leave the file of before, or an empty one.
+    next call removes. Without `is_synced` a power failure may leave the file of before, or an empty
+    one.
     """
     make_folder(path.parent)
     part = path.with_name(f'.{path.name}.part')

@@ -1,8 +1,9 @@
 """Work of root's below a folder that a service owns: a child that is the folder's owner does it.
 
-A service that was taken over can put a link at each path below its own folder. Root would follow the link, and read, write or
-give away what lies behind it. The owner reaches there no more than he reaches anyway. So root opens nothing below such a folder:
-the child opens files, and what it reads comes back through a pipe, as bytes and nothing else.
+A service that was taken over can put a link at each path below its own folder. Root would follow
+the link, and read, write or give away what lies behind it. The owner reaches there no more than he
+reaches anyway. So root opens nothing below such a folder: the child opens files, and what it reads
+comes back through a pipe, as bytes and nothing else.
 """
 import grp
 import os

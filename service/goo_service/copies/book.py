@@ -23,7 +23,10 @@ USER = 'goo-records'
 BOOK = Path(os.environ.get('GOO_BOOK') or '/var/lib/goo-records')
 FIRST = 'first'
 FILES = ('registry.db', 'place.json')
-"""The files of a copy by which the book is made. Its configuration is not for the user of the records."""
+"""The files of a copy by which the book is made.
+
+Its configuration is not for the user of the records.
+"""
 
 
 def place_beginning(copy: Path, n: int, configuration: Path) -> str:

@@ -1,1 +1,1 @@
-"""The log of requests: entries, its order, who may add to it, and what applies it to the registry."""
+"""The log of requests: entries, its order, who may add to it, and what applies it."""

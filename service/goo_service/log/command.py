@@ -290,8 +290,8 @@ def verify(words: Words) -> None:
         else:
             base = Path(word)
     copies = words.copies if words.copies.is_dir() else None
-    for line in verification.verify(words.goo, words.state / 'archive', words.secret, base, copies,
-                               begin):
+    for line in verification.verify(words.goo, words.state / 'archive', words.secret, base,
+                                    copies, begin):
         print(line)
 
 

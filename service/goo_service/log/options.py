@@ -29,7 +29,8 @@ class Options(EtcdOptions):
 
     listen: str = field(default='127.0.0.1:8470', metadata={
         'help': "a path or HOST:PORT; a socket of systemd's goes before it"})
-    registry: str = field(default='/run/goo/registry.sock', metadata={'help': 'a path or HOST:PORT'})
+    registry: str = field(default='/run/goo/registry.sock', metadata={
+        'help': 'a path or HOST:PORT'})
     state: str = field(default=STATE, metadata={'help': 'the folder of the place and the archive'})
     key: str = field(default='/etc/goo/replica.key', metadata={
         'help': 'the file with the key of the keyed hash'})

@@ -36,7 +36,7 @@ UNDONE = re.compile(r'undone-(\d+)-.+')
 AGAIN = (200, 403, 409)
 """Outcomes of entries that are sent again. The others changed nothing and would change nothing."""
 TRIES, PATIENCE = 300, 600
-"""How often a request is sent while the replica takes none, a second each; seconds for an answer."""
+"""How often a request is sent while the replica takes none, and seconds for an answer."""
 
 
 @dataclass(frozen=True)

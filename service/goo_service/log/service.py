@@ -1,4 +1,4 @@
-"""What a replica does with each request that came whole: writes, reads, and questions about itself."""
+"""What a replica does with a request that came whole: a write, a read, a question about itself."""
 import asyncio
 import dataclasses
 import datetime

@@ -1,27 +1,36 @@
-"""Reads a file of declarations before it is sent, and tells each field at fault, with the reason and what was expected.
+"""Reads a file of declarations before it is sent, and tells each field at fault.
 
 usage: goo-check-declarations FILE
 
-A period that a device has declared shuts out every earlier one for good. So a file with one bad row loses that row's production as soon as a
-later row of the same device is accepted. Nothing is sent from here. The page reads a file by the same rules (web/reading.js), which are those of
-docs/FORMATS.md and docs/REGISTRY.md that a file alone can show: the form of each field, the check digit of a GSRN, a period within one month,
-auxiliaries of no more than the gross production, a key of its own for each row, and the order of a device's periods. A table has 21,000 rows at
-most: the log in front of the registry takes no longer one.
+With a fault goes the reason, and what was expected. A period that a device has declared shuts out
+every earlier one for good. So a file with one bad row loses that row's production as soon as a
+later row of the same device is accepted. Nothing is sent from here. The page reads a file by the
+same rules (web/reading.js), which are those of docs/FORMATS.md and docs/REGISTRY.md that a file
+alone can show: the form of each field, the check digit of a GSRN, a period within one month,
+auxiliaries of no more than the gross production, a key of its own for each row, and the order of a
+device's periods. A table has 21,000 rows at most: the log in front of the registry takes no longer
+one.
 
-Rows are numbered as in the registry's report: row 1 is the first below the header. Exit status 0 where nothing is at fault, 1 where something
-is, 2 for a usage error, and 3 where the file can't be read.
+Rows are numbered as in the registry's report: row 1 is the first below the header. Exit status 0
+where nothing is at fault, 1 where something is, 2 for a usage error, and 3 where the file can't be
+read.
 """
 import calendar
 import csv
 import io
-import pathlib
 import re
 import sys
+from collections.abc import Iterator
+from dataclasses import dataclass
+from dataclasses import field
+from pathlib import Path
+from typing import NamedTuple
 
 from goo_service.log.bounds import ROWS as MOST_ROWS
 
 HEADER = 'key,device,first_day,last_day,gross_wh,aux_wh'
-FIELDS = {'key': 'key', 'device': 'gsrn', 'first_day': 'day', 'last_day': 'day', 'gross_wh': 'wh', 'aux_wh': 'wh'}
+FIELDS = {'key': 'key', 'device': 'gsrn', 'first_day': 'day', 'last_day': 'day', 'gross_wh': 'wh',
+          'aux_wh': 'wh'}
 """The name of each field, and what kind of text it is."""
 MOST_BYTES = 16_777_216
 MOST_WH = 10 ** 15
@@ -33,13 +42,15 @@ EXPECTED = {
     'day': 'Expected a day from 1900 to 2099 in the form 2025-01-31.',
     'wh': 'Expected a whole number of Wh from 0 to 1,000,000,000,000,000, digits alone.',
 }
-SLIPS = {
+SLIPS: dict[str, list[tuple[str, str]]] = {
     'key': [],
     'gsrn': [(SHORTENED, 'A spreadsheet has shortened it and its last digits are lost.'),
-             ('[0-9]{18}', 'Its check digit does not fit the other digits: look for a typing mistake.'),
+             ('[0-9]{18}',
+              'Its check digit does not fit the other digits: look for a typing mistake.'),
              ('[0-9]+', 'It has too few or too many digits.')],
     'day': [('[0-9]{4}-[0-9]{2}-[0-9]{2}', 'There is no such day.'),
-            ('[0-9]{1,4}[./-][0-9]{1,2}[./-][0-9]{1,4}', 'A spreadsheet has changed the form of the day.'),
+            ('[0-9]{1,4}[./-][0-9]{1,2}[./-][0-9]{1,4}',
+             'A spreadsheet has changed the form of the day.'),
             ('[0-9]{5}([.,][0-9]+)?', 'A spreadsheet has turned the day into a number.')],
     'wh': [(SHORTENED, 'A spreadsheet has shortened it and its last digits may be lost.'),
            ('-.*', 'It is negative.'),
@@ -50,14 +61,23 @@ SLIPS = {
 """What often goes wrong with each kind of text: the first pattern that fits gives the reason."""
 
 
-def is_gsrn(text):
+class Fault(NamedTuple):
+    """What is at fault: a row (0 is the header), a field of it, and the reason."""
+
+    row: int
+    field: str
+    reason: str
+
+
+def is_gsrn(text: str) -> bool:
     """Eighteen digits, the last one GS1's check digit: weights 3, 1, 3, .. over the first 17."""
     if not re.fullmatch('[0-9]{18}', text):
         return False
-    return (sum(int(digit) * (1 if place % 2 else 3) for place, digit in enumerate(text[:17])) + int(text[17])) % 10 == 0
+    weighed = sum(int(digit) * (1 if place % 2 else 3) for place, digit in enumerate(text[:17]))
+    return (weighed + int(text[17])) % 10 == 0
 
 
-def is_day(text):
+def is_day(text: str) -> bool:
     """A day of the calendar from 1900-01-01 to 2099-12-31."""
     if not re.fullmatch('(19|20)[0-9]{2}-[0-9]{2}-[0-9]{2}', text):
         return False
@@ -65,12 +85,12 @@ def is_day(text):
     return 1 <= month <= 12 and 1 <= day <= calendar.monthrange(year, month)[1]
 
 
-def is_wh(text):
+def is_wh(text: str) -> bool:
     """1 to 16 digits, at most 10^15."""
     return re.fullmatch('[0-9]{1,16}', text) is not None and int(text) <= MOST_WH
 
 
-def is_key(text):
+def is_key(text: str) -> bool:
     """1 to 40 characters that a key may have."""
     return re.fullmatch('[A-Za-z0-9_.:-]{1,40}', text) is not None
 
@@ -78,107 +98,143 @@ def is_key(text):
 FITS = {'key': is_key, 'gsrn': is_gsrn, 'day': is_day, 'wh': is_wh}
 
 
-def field_fault(kind, text):
+def field_fault(kind: str, text: str) -> str:
     """Why a field is not of its kind, and what was expected; '' where nothing is wrong."""
     if FITS[kind](text):
         return ''
-    slips = [('', 'It is empty.'), (f'{BLANK}.*|.*{BLANK}', 'There is a space before or after it.'), *SLIPS[kind], ('(?s).*', '')]
-    return f'{next(reason for pattern, reason in slips if re.fullmatch(pattern, text))} {EXPECTED[kind]}'.strip()
+    slips = [('', 'It is empty.'), (f'{BLANK}.*|.*{BLANK}', 'There is a space before or after it.'),
+             *SLIPS[kind]]
+    return f'{reason_by(slips, text)} {EXPECTED[kind]}'.strip()
 
 
-def period_faults(first, last, gross, aux):
+def reason_by(slips: list[tuple[str, str]], text: str) -> str:
+    """The reason beside the first pattern that a text fits, if it fits one."""
+    return next((reason for pattern, reason in slips if re.fullmatch(pattern, text)), '')
+
+
+def period_faults(first: str, last: str, gross: str, aux: str) -> Iterator[tuple[str, str]]:
     """What is wrong between the fields of one row."""
     if last < first:
-        yield 'last_day', 'The period ends before it begins. Expected a day from first_day to the end of its month.'
+        yield 'last_day', ('The period ends before it begins. '
+                           'Expected a day from first_day to the end of its month.')
     elif last[:7] != first[:7]:
-        yield 'last_day', 'The period runs into another month. Expected a day of the month of first_day: one row for each month.'
+        yield 'last_day', ('The period runs into another month. '
+                           'Expected a day of the month of first_day: one row for each month.')
     if int(aux) > int(gross):
         yield 'aux_wh', 'The auxiliaries exceed the gross production. Expected at most gross_wh.'
 
 
-def row_faults(fields):
-    """The fields of a row that are at fault, each with its reason; `row` where it is the row as a whole."""
+def row_faults(fields: list[str]) -> list[tuple[str, str]]:
+    """The fields of a row that are at fault, each with its reason; `row` for the row as a whole."""
     if re.fullmatch(f'{BLANK}*', ''.join(fields)):
         return [('row', 'It is empty. Delete it.')]
     if any(re.search('[\r\n]', field) for field in fields):
-        return [('row', 'It goes on in another line. Look for a quotation mark that is not closed.')]
+        return [('row', 'It goes on in another line. '
+                        'Look for a quotation mark that is not closed.')]
     if len(fields) == 1 and fields[0].count(';') == len(FIELDS) - 1:
         return [('row', 'Its fields are separated by semicolons. Expected commas.')]
     if len(fields) != len(FIELDS):
         return [('row', f'Expected {len(FIELDS)} fields, and it has {len(fields)}.')]
-    faults = [(name, reason) for (name, kind), text in zip(FIELDS.items(), fields) if (reason := field_fault(kind, text))]
+    faults = [(name, reason) for (name, kind), text in zip(FIELDS.items(), fields)
+              if (reason := field_fault(kind, text))]
     return faults or list(period_faults(*fields[2:]))
 
 
-def order_faults(fields, keys, ends):
-    """What is wrong between a row and those before it: their keys, and where each device's last period ended."""
-    key, device, first, _, _, _ = fields
-    if key in keys:
-        yield 'key', f'Row {keys[key]} has the same key. Expected a key of its own for each row.'
-    if device in ends and first <= ends[device][0]:
-        yield 'first_day', f'Row {ends[device][1]} of this device ends on {ends[device][0]}. Expected a later day.'
+@dataclass
+class Earlier:
+    """The rows that were read before one."""
+
+    keys: dict[str, int] = field(default_factory=dict)
+    """The row of each key."""
+    ends: dict[str, tuple[str, int]] = field(default_factory=dict)
+    """Of each device where its last period ended, and in which row."""
+
+    def add(self, number: int, fields: list[str]) -> None:
+        key, device, _, last, _, _ = fields
+        self.keys[key], self.ends[device] = number, (last, number)
+
+    def faults(self, fields: list[str]) -> Iterator[tuple[str, str]]:
+        """What is wrong between a row and those before it."""
+        key, device, first, _, _, _ = fields
+        if key in self.keys:
+            yield 'key', (f'Row {self.keys[key]} has the same key. '
+                          'Expected a key of its own for each row.')
+        day, row = self.ends.get(device, ('', 0))
+        if first <= day:
+            yield 'first_day', f'Row {row} of this device ends on {day}. Expected a later day.'
 
 
-def header_fault(header):
+def header_fault(header: list[str]) -> str:
     """What is wrong with the first record; '' where it is the header."""
     text = ','.join(header)
     if text == HEADER and len(header) == len(FIELDS):
         return ''
-    reasons = [('(?s).*[\0\ufffd].*', 'The file is not UTF-8 text.'), ('(?s).*;.*', 'The fields are separated by semicolons.'),
-               ('(?s).*\t.*', 'The fields are separated by tabs.'), ('', 'The file is empty.'), ('(?s).*', '')]
-    return f'{next(reason for pattern, reason in reasons if re.fullmatch(pattern, text))} Expected a CSV in UTF-8 that begins with {HEADER}'.strip()
+    slips = [('(?s).*[\0\ufffd].*', 'The file is not UTF-8 text.'),
+             ('(?s).*;.*', 'The fields are separated by semicolons.'),
+             ('(?s).*\t.*', 'The fields are separated by tabs.'), ('', 'The file is empty.')]
+    expected = f'Expected a CSV in UTF-8 that begins with {HEADER}'
+    return f'{reason_by(slips, text)} {expected}'.strip()
 
 
-def records(text):
+def records(text: str) -> list[list[str]]:
     """The records of a CSV. Blank lines are passed over."""
     csv.field_size_limit(sys.maxsize)
-    return [record for record in csv.reader(io.StringIO(text.removeprefix('\ufeff'), newline='')) if record]
+    lines = io.StringIO(text.removeprefix('\ufeff'), newline='')
+    return [record for record in csv.reader(lines) if record]
 
 
-def read(text):
-    """The rows of a file, and what is at fault: row (0 is the header), field and reason of each."""
+def read(text: str) -> tuple[list[list[str]], list[Fault]]:
+    """The rows of a file, and what is at fault."""
     header, *rows = records(text) or [[]]
     if reason := header_fault(header):
-        return rows, [(0, 'header', reason)]
+        return rows, [Fault(0, 'header', reason)]
+    if not rows:
+        return rows, [Fault(0, 'file', 'There is no row below the header. Expected one at least.')]
     if len(rows) > MOST_ROWS:
-        return rows, [(0, 'file', f'It has {len(rows):,} rows. Expected at most {MOST_ROWS:,}: split it, each part with the header.')]
-    faults, keys, ends = [], {}, {}
+        return rows, [Fault(0, 'file', f'It has {len(rows):,} rows. Expected at most '
+                            f'{MOST_ROWS:,}: split it, each part with the header.')]
+    faults: list[Fault] = []
+    earlier = Earlier()
     for number, fields in enumerate(rows, 1):
-        found = row_faults(fields) or list(order_faults(fields, keys, ends))
-        faults += [(number, *fault) for fault in found]
+        found = row_faults(fields) or list(earlier.faults(fields))
+        faults += [Fault(number, *fault) for fault in found]
         if not found:
-            keys[fields[0]], ends[fields[1]] = number, (fields[3], number)
-    return rows, faults if rows else [(0, 'file', 'There is no row below the header. Expected one at least.')]
+            earlier.add(number, fields)
+    return rows, faults
 
 
-def ended(line, status):
+def end(line: str | None, status: int) -> int:
     print(line, file=sys.stderr)
     return status
 
 
-def found_at(rows, row, field):
+def place_of(rows: list[list[str]], fault: Fault) -> str:
     """The place of a fault as a person reads it, with what stands there."""
-    if row == 0:
-        return field
-    value = rows[row - 1][list(FIELDS).index(field)] if field in FIELDS else ''
-    return f'row {row}, {field}{f" {ascii(value[:40])}" if value else ""}'
+    if fault.row == 0:
+        return fault.field
+    is_field = fault.field in FIELDS
+    value = rows[fault.row - 1][list(FIELDS).index(fault.field)] if is_field else ''
+    return f'row {fault.row}, {fault.field}{f" {ascii(value[:40])}" if value else ""}'
 
 
-def main():
+def main() -> int:
     words = sys.argv[1:]
     if words in (['-h'], ['--help']) or len(words) != 1 or words[0].startswith('-'):
-        return ended(__doc__, 0 if words in (['-h'], ['--help']) else 2)
+        return end(__doc__, 0 if words in (['-h'], ['--help']) else 2)
     try:
-        data = pathlib.Path(words[0]).read_bytes()
+        data = Path(words[0]).read_bytes()
     except OSError as error:
-        return ended(f'check-declarations: {words[0]}: {error.strerror}', 3)
+        return end(f'check-declarations: {words[0]}: {error.strerror}', 3)
     if len(data) > MOST_BYTES:
-        return ended(f'check-declarations: {words[0]}: {len(data):,} bytes. Expected at most {MOST_BYTES:,}: split it, each part with the header', 1)
+        return end(f'check-declarations: {words[0]}: {len(data):,} bytes. Expected at most '
+                   f'{MOST_BYTES:,}: split it, each part with the header', 1)
     rows, faults = read(data.decode('utf-8', 'replace'))
-    for row, field, reason in faults:
-        print(f'{found_at(rows, row, field)}: {reason}')
-    at_fault = len({row for row, *_ in faults})
-    print(f'{len(rows)} row{"" if len(rows) == 1 else "s"}, {at_fault or "none"} at fault{": do not send the file" if faults else ""}')
+    for fault in faults:
+        print(f'{place_of(rows, fault)}: {fault.reason}')
+    at_fault = len({fault.row for fault in faults})
+    hint = ': do not send the file' if faults else ''
+    count = f'{len(rows)} row{"" if len(rows) == 1 else "s"}'
+    print(f'{count}, {at_fault or "none"} at fault{hint}')
     return 1 if faults else 0
 
 

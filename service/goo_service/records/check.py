@@ -27,7 +27,7 @@ from goo_service.common.rules import PLANT
 from goo_service.common.rules import Place
 from goo_service.common.rules import Registry
 from goo_service.copies import contents
-from goo_service.copies.recount import ROWS
+from goo_service.copies.expected import ROWS
 from goo_service.log import entries
 from goo_service.log import roles
 from goo_service.records import table_rows

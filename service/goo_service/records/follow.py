@@ -20,6 +20,7 @@ from typing import Any
 
 from goo_service.common.files import sync_folder
 from goo_service.common.files import write_whole
+from goo_service.copies.kept import Copy
 from goo_service.log import entries
 from goo_service.records.beginning import Place
 from goo_service.records.beginning import check_first_entry
@@ -73,11 +74,9 @@ def make_key(path: Path) -> None:
 
 def of_copy(path: Path, folder: str) -> tuple[WatchedRegistry, Iterator[Any]]:
     """The registry that a copy holds, and its requests in their order."""
-    from goo_service.copies import recount      # which only a book that begins by a copy needs
-    copy = recount.Copy(path, folder)
-    begun, _ = copy.begun()
-    registry = WatchedRegistry(copy.code, begun, copy.next_serial_at_first())
-    return registry, copy.ask(recount.REQUESTS)
+    copy = Copy(path, folder)
+    registry = WatchedRegistry(copy.code, copy.beginning().day, copy.next_serial_at_first())
+    return registry, copy.requests()
 
 
 def make_book(given: argparse.Namespace, place: Place, path: Path) -> Book:
