@@ -107,12 +107,20 @@ def test_a_start_reads_the_new_entries_alone(tmp_path: Path,
     for number in range(7):
         made.take(made.record('SUN', '/v1/requests', b'new', 400, answer))
     longer = write_archive(tmp_path / 'longer', lines_of(tmp_path / 'archive'))
-    read, applied = [], []
+    read: list[bytes] = []
+    applied: list[int] = []
     real_read, real_apply = entries.read_record, book.Book.apply
-    monkeypatch.setattr(entries, 'read_record', lambda line, key=None:
-                        read.append(line) or real_read(line, key))
-    monkeypatch.setattr(book.Book, 'apply', lambda own, record:
-                        applied.append(record.entry.n) or real_apply(own, record))
+
+    def read_record(line: bytes, key: bytes | None = None) -> entries.Record:
+        read.append(line)
+        return real_read(line, key)
+
+    def apply(own: book.Book, record: entries.Record) -> None:
+        applied.append(record.entry.n)
+        real_apply(own, record)
+
+    monkeypatch.setattr(entries, 'read_record', read_record)
+    monkeypatch.setattr(book.Book, 'apply', apply)
     follow.follow(words(tmp_path / 'book', longer))
     assert applied == list(range(10_001, 10_008))
     assert len({entries.number_in(line) for line in read} - set(applied)) <= 2
@@ -243,7 +251,7 @@ def garbled(path: Path) -> None:
 
 
 FORM = schema.FORM
-ANEW = {
+ANEW: dict[str, Callable[[Path], object]] = {
     f'it has form {FORM - 1}, and this program writes form {FORM}':
         changed('UPDATE meta SET form = form - 1'),
     'it begins with --begun 9 2025-01-01 1, and is to begin with --begun 7 2026-01-15 1':
@@ -310,7 +318,11 @@ def test_an_archive_from_the_next_entry_on_is_enough(log: Logged, whole: Any, tm
 def test_an_entry_that_is_applied_twice_is_told(log: Logged, tmp_path: Path,
                                                 monkeypatch: pytest.MonkeyPatch) -> None:
     real = book.Book.apply
-    monkeypatch.setattr(book.Book, 'apply', lambda own, record:
-                        real(own, record) or real(own, record))
+
+    def twice(own: book.Book, record: entries.Record) -> None:
+        real(own, record)
+        real(own, record)
+
+    monkeypatch.setattr(book.Book, 'apply', twice)
     with pytest.raises(schema.Mismatch):
         follow.follow(words(tmp_path / 'book', log.folder / 'archive'))
