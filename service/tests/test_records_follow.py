@@ -326,3 +326,82 @@ def test_an_entry_that_is_applied_twice_is_told(log: Logged, tmp_path: Path,
     monkeypatch.setattr(book.Book, 'apply', twice)
     with pytest.raises(schema.Mismatch):
         follow.follow(words(tmp_path / 'book', log.folder / 'archive'))
+
+
+# -------------------------------------------------------------------- one file, one writer
+
+def test_made_in_other_steps_it_is_the_same_file(log: Logged, whole: Any, tmp_path: Path,
+                                                 monkeypatch: pytest.MonkeyPatch) -> None:
+    monkeypatch.setattr(follow, 'BATCH', 37)
+    follow.follow(words(tmp_path / 'again', log.folder / 'archive'))
+    made, again = log.folder / 'whole/current', tmp_path / 'again/current'
+    assert made.read_bytes() == again.read_bytes()
+
+
+def test_a_second_writer_is_told(log: Logged, tmp_path: Path) -> None:
+    into = tmp_path / 'book'
+    into.mkdir()
+    with follow.lock_of(into), pytest.raises(follow.Locked, match=f'follows the log into {into}'):
+        follow.follow(words(into, log.folder / 'archive'))
+    assert not (into / 'current').exists()
+
+
+# -------------------------------------------------------------------- a log that is spoiled
+
+AT = 30
+SPOILED: dict[str, Callable[[list[bytes]], list[bytes]]] = {
+    f'entry {AT + 1} stands after entry {AT - 1}':
+        lambda lines: lines[:AT - 1] + lines[AT:],
+    'begins with entry 10, and the book would begin with entry 1':
+        lambda lines: lines[9:],
+    f'after entry {AT - 1}: ':
+        lambda lines: [*lines[:AT - 1], lines[AT - 1][:len(lines[AT - 1]) // 2], *lines[AT:]],
+    f'entry {AT}, at byte ':
+        lambda lines: [*lines[:AT - 1], b'nonsense', *lines[AT:]],
+    f'after entry {AT - 1}: .*entry {AT + 1} stands after':
+        lambda lines: [*lines[:AT - 1], lines[AT], lines[AT - 1], *lines[AT + 1:]],
+    f'entry {AT}: its outcome is not the one that was chained':
+        lambda lines: [*lines[:AT - 1], lines[AT - 1].replace(b'"status":', b'"status":1', 1),
+                       *lines[AT:]],
+}
+"""What is told of an archive, and what is done to its lines."""
+
+
+@pytest.mark.parametrize('is_there', [False, True])
+@pytest.mark.parametrize('told', SPOILED)
+def test_of_a_spoiled_log_no_book_is_made(few: list[bytes], tmp_path: Path, told: str,
+                                          is_there: bool) -> None:
+    """The one before goes on answering, and no half of one is left beside it."""
+    into = tmp_path / 'book'
+    if is_there:
+        follow.follow(words(into, write_archive(tmp_path / 'good', few[:5])))
+    before = rows_of_book(into / 'current') if is_there else None
+    spoiled = write_archive(tmp_path / 'spoiled', SPOILED[told](few))
+    with pytest.raises((entries.Broken, schema.Mismatch), match=told):
+        follow.follow(words(into, spoiled))
+    left = {path.name for path in into.glob('book-*') if path.suffix == '.making'}
+    assert not left
+    if is_there:
+        database = schema.connect(into / 'current', read_only=True)
+        entry, = database.execute('SELECT entry FROM meta').fetchone()
+        database.close()
+        assert entry > 5 or rows_of_book(into / 'current') == before
+    else:
+        assert not (into / 'current').exists()
+
+
+def test_another_registrys_code_is_told_by_the_first_entry_that_shows_it(
+        log: Logged, tmp_path: Path) -> None:
+    given = words(tmp_path / 'book', log.folder / 'archive', begun=['8', DAY, '1'])
+    with pytest.raises(schema.Mismatch, match=r'entry \d+: the registry (accepted|answered) '):
+        follow.follow(given)
+
+
+def test_a_torn_last_line_is_not_read(few: list[bytes], tmp_path: Path) -> None:
+    archive = write_archive(tmp_path / 'archive', few[:-1])
+    with open(archive / '2026-02.jsonl', 'ab') as file:
+        file.write(few[-1][:50])
+    follow.follow(words(tmp_path / 'book', archive))
+    with closing(schema.read_moment(tmp_path / 'book/current')) as database:
+        entry, = database.execute('SELECT entry FROM meta').fetchone()
+    assert entry == len(few) - 1
