@@ -4,6 +4,7 @@
 import {count, special} from './dom.js';
 import {known, t} from './language.js';
 import {LISTS} from './paper.js';
+import {asked, everyItem, records} from './records.js';
 import {statementOf, statements} from './registry.js';
 import {today, monthsAfter} from './session.js';
 
@@ -53,18 +54,42 @@ async function ofCancel(values) {
   };
 }
 
-/** What a new date would do: what expires and what can't be traded any more, in all and account by account. */
-async function ofAdvance({day}, progress) {
-  const sums = {expire: 0, close: 0}, lines = [];
+/** Days ahead that the list of deadlines reaches. Whatever is held expires within them. */
+const MOST_DAYS = 4000;
+const daysBetween = (first, last) => Math.round((Date.parse(last) - Date.parse(first)) / 86_400_000);
+
+/** What a new date does to the certificates of each account, by the book: its list of deadlines up to the day before. */
+async function byDeadlines(day) {
+  const {stands: {today: date}} = await asked('status'), days = Math.min(MOST_DAYS, daysBetween(date, day) - 1);
+  if (days < 0) return [];
+  const lots = await everyItem('deadlines', {days});
+  const found = new Map((lots.length ? await everyItem('accounts') : []).map(({number, holder}) => [number, {account: number, holder, expire: 0, close: 0}]));
+  for (const of of lots) {
+    const isOver = of.expires_on !== null && day > of.expires_on, closes = of.next === 'trade' && day > of.trade_until;
+    if (isOver || closes) found.get(of.account)[isOver ? 'expire' : 'close'] += of.count;
+  }
+  return [...found.values()];
+}
+
+/** The same by the registry alone: every account's statement. */
+async function byStatements(day, progress) {
+  const found = [];
   for await (const {facts: f, lines: runs} of statements()) {
     progress(t`Looking at account ${f.account}.`);
     const held = runs.filter((run) => run.kind === 'held'), sum = (some) => some.reduce((n, run) => n + run.count, 0);
-    const isOver = (run) => day > monthsAfter(run.last_day, MONTHS_TO_EXPIRY);
-    const expire = sum(held.filter(isOver));
-    const close = sum(held.filter((run) => !isOver(run) && day > monthsAfter(run.last_day, MONTHS_OF_TRADE) && f.date <= monthsAfter(run.last_day, MONTHS_OF_TRADE)));
+    const isOver = (run) => day > monthsAfter(run.last_day, MONTHS_TO_EXPIRY), lastDay = (run) => monthsAfter(run.last_day, MONTHS_OF_TRADE);
+    found.push({account: f.account, holder: f.holder, expire: sum(held.filter(isOver)), close: sum(held.filter((run) => !isOver(run) && day > lastDay(run) && f.date <= lastDay(run)))});
+  }
+  return found;
+}
+
+/** What a new date would do: what expires and what can't be traded any more, in all and account by account. */
+async function ofAdvance({day}, progress) {
+  const sums = {expire: 0, close: 0}, lines = [];
+  for (const {account, holder, expire, close} of await (records.isThere ? byDeadlines(day) : byStatements(day, progress))) {
     sums.expire += expire;
     sums.close += close;
-    if (expire || close) lines.push(t`Account ${f.account} of ${f.holder}: ${count(expire)} expire, trade closes for ${count(close)}.`);
+    if (expire || close) lines.push(t`Account ${account} of ${holder}: ${count(expire)} expire, trade closes for ${count(close)}.`);
   }
   return {
     facts: [['Certificates that expire', count(sums.expire)], ['Trade closes for', sums.close === 1 ? t`1 certificate` : t`${count(sums.close)} certificates`]], notes: lines,

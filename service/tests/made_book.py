@@ -139,7 +139,7 @@ class Made:
     def items(self, caller: str, name: str, **parameters: object) -> list[dict[str, Any]]:
         """All items of a list, page by page."""
         found: list[dict[str, Any]] = []
-        more = {'limit': 1000, **parameters}
+        more: dict[str, object] = {'limit': 1000, **parameters}
         while True:
             status, answer = self.asked(caller, f'/records/v1/{name}', **more)
             assert status == 200, answer

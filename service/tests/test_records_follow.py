@@ -107,12 +107,20 @@ def test_a_start_reads_the_new_entries_alone(tmp_path: Path,
     for number in range(7):
         made.take(made.record('SUN', '/v1/requests', b'new', 400, answer))
     longer = write_archive(tmp_path / 'longer', lines_of(tmp_path / 'archive'))
-    read, applied = [], []
+    read: list[bytes] = []
+    applied: list[int] = []
     real_read, real_apply = entries.read_record, book.Book.apply
-    monkeypatch.setattr(entries, 'read_record', lambda line, key=None:
-                        read.append(line) or real_read(line, key))
-    monkeypatch.setattr(book.Book, 'apply', lambda own, record:
-                        applied.append(record.entry.n) or real_apply(own, record))
+
+    def read_record(line: bytes, key: bytes | None = None) -> entries.Record:
+        read.append(line)
+        return real_read(line, key)
+
+    def apply(own: book.Book, record: entries.Record) -> None:
+        applied.append(record.entry.n)
+        real_apply(own, record)
+
+    monkeypatch.setattr(entries, 'read_record', read_record)
+    monkeypatch.setattr(book.Book, 'apply', apply)
     follow.follow(words(tmp_path / 'book', longer))
     assert applied == list(range(10_001, 10_008))
     assert len({entries.number_in(line) for line in read} - set(applied)) <= 2
@@ -243,7 +251,7 @@ def garbled(path: Path) -> None:
 
 
 FORM = schema.FORM
-ANEW = {
+ANEW: dict[str, Callable[[Path], object]] = {
     f'it has form {FORM - 1}, and this program writes form {FORM}':
         changed('UPDATE meta SET form = form - 1'),
     'it begins with --begun 9 2025-01-01 1, and is to begin with --begun 7 2026-01-15 1':
@@ -310,7 +318,90 @@ def test_an_archive_from_the_next_entry_on_is_enough(log: Logged, whole: Any, tm
 def test_an_entry_that_is_applied_twice_is_told(log: Logged, tmp_path: Path,
                                                 monkeypatch: pytest.MonkeyPatch) -> None:
     real = book.Book.apply
-    monkeypatch.setattr(book.Book, 'apply', lambda own, record:
-                        real(own, record) or real(own, record))
+
+    def twice(own: book.Book, record: entries.Record) -> None:
+        real(own, record)
+        real(own, record)
+
+    monkeypatch.setattr(book.Book, 'apply', twice)
     with pytest.raises(schema.Mismatch):
         follow.follow(words(tmp_path / 'book', log.folder / 'archive'))
+
+
+# -------------------------------------------------------------------- one file, one writer
+
+def test_made_in_other_steps_it_is_the_same_file(log: Logged, whole: Any, tmp_path: Path,
+                                                 monkeypatch: pytest.MonkeyPatch) -> None:
+    monkeypatch.setattr(follow, 'BATCH', 37)
+    follow.follow(words(tmp_path / 'again', log.folder / 'archive'))
+    made, again = log.folder / 'whole/current', tmp_path / 'again/current'
+    assert made.read_bytes() == again.read_bytes()
+
+
+def test_a_second_writer_is_told(log: Logged, tmp_path: Path) -> None:
+    into = tmp_path / 'book'
+    into.mkdir()
+    with follow.lock_of(into), pytest.raises(follow.Locked, match=f'follows the log into {into}'):
+        follow.follow(words(into, log.folder / 'archive'))
+    assert not (into / 'current').exists()
+
+
+# -------------------------------------------------------------------- a log that is spoiled
+
+AT = 30
+SPOILED: dict[str, Callable[[list[bytes]], list[bytes]]] = {
+    f'entry {AT + 1} stands after entry {AT - 1}':
+        lambda lines: lines[:AT - 1] + lines[AT:],
+    'begins with entry 10, and the book would begin with entry 1':
+        lambda lines: lines[9:],
+    f'after entry {AT - 1}: ':
+        lambda lines: [*lines[:AT - 1], lines[AT - 1][:len(lines[AT - 1]) // 2], *lines[AT:]],
+    f'entry {AT}, at byte ':
+        lambda lines: [*lines[:AT - 1], b'nonsense', *lines[AT:]],
+    f'after entry {AT - 1}: .*entry {AT + 1} stands after':
+        lambda lines: [*lines[:AT - 1], lines[AT], lines[AT - 1], *lines[AT + 1:]],
+    f'entry {AT}: its outcome is not the one that was chained':
+        lambda lines: [*lines[:AT - 1], lines[AT - 1].replace(b'"status":', b'"status":1', 1),
+                       *lines[AT:]],
+}
+"""What is told of an archive, and what is done to its lines."""
+
+
+@pytest.mark.parametrize('is_there', [False, True])
+@pytest.mark.parametrize('told', SPOILED)
+def test_of_a_spoiled_log_no_book_is_made(few: list[bytes], tmp_path: Path, told: str,
+                                          is_there: bool) -> None:
+    """The one before goes on answering, and no half of one is left beside it."""
+    into = tmp_path / 'book'
+    if is_there:
+        follow.follow(words(into, write_archive(tmp_path / 'good', few[:5])))
+    before = rows_of_book(into / 'current') if is_there else None
+    spoiled = write_archive(tmp_path / 'spoiled', SPOILED[told](few))
+    with pytest.raises((entries.Broken, schema.Mismatch), match=told):
+        follow.follow(words(into, spoiled))
+    left = {path.name for path in into.glob('book-*') if path.suffix == '.making'}
+    assert not left
+    if is_there:
+        database = schema.connect(into / 'current', read_only=True)
+        entry, = database.execute('SELECT entry FROM meta').fetchone()
+        database.close()
+        assert entry > 5 or rows_of_book(into / 'current') == before
+    else:
+        assert not (into / 'current').exists()
+
+
+def test_another_registrys_code_is_told_by_the_first_entry_that_shows_it(
+        log: Logged, tmp_path: Path) -> None:
+    given = words(tmp_path / 'book', log.folder / 'archive', begun=['8', DAY, '1'])
+    with pytest.raises(schema.Mismatch, match=r'entry \d+: the registry (accepted|answered) '):
+        follow.follow(given)
+
+
+def test_a_torn_last_line_is_not_read(few: list[bytes], tmp_path: Path) -> None:
+    archive = write_archive(tmp_path / 'archive', few[:-1])
+    with open(archive / '2026-02.jsonl', 'ab') as file:
+        file.write(few[-1][:50])
+    follow.follow(words(tmp_path / 'book', archive))
+    with closing(schema.read_moment(tmp_path / 'book/current')) as database:
+        entry, = database.execute('SELECT entry FROM meta').fetchone()
+    assert entry == len(few) - 1

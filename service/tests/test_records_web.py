@@ -94,7 +94,7 @@ def test_limit_and_offset_go_through_each_list(made: Made) -> None:
 def file_of(made: Made, name: str, **parameters: object) -> list[dict[str, str]]:
     client = made.client()
     answer = client.get(f'/records/v1/{name}', headers={'GOO-Caller': ISSUER},
-                        query_string={**parameters, 'format': 'csv'})
+                        query_string={'format': 'csv', **parameters})
     assert answer.status_code == 200
     return list(csv.DictReader(io.StringIO(answer.get_data(as_text=True), newline='')))
 
@@ -133,7 +133,7 @@ def test_a_file_is_written_as_it_is_read(made: Made) -> None:
 
 # ------------------------------------------------------------ time
 
-def slow_client(made: Made, **limits: float) -> Any:
+def slow_client(made: Made, **limits: Any) -> Any:
     made.book().close()
     files = made.folder / 'state.json'
     return web.application(made.folder, files, web.Limits(**limits)).test_client()

@@ -147,7 +147,7 @@ def nobody(service):
 
 def found_by(service, acts):
     """Acts that a viewer finds by a value that they don't show him. Each filter is tried with values of acts that are not his."""
-    from goo_service.records.answers import ACT_FILTERS, OWN_ALONE
+    from goo_service.records.acts import ACT_FILTERS, OWN_ALONE
     for name in {*ACT_FILTERS, *OWN_ALONE}:
         for value in list(dict.fromkeys(act[name] for act in acts if act[name] is not None))[:6]:
             for viewer in VIEWERS:

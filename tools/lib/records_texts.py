@@ -1,7 +1,7 @@
 """Texts that are looked for in acts: what the index of texts finds is what a plain look through all acts finds, for each viewer. For tools/trials/records."""
 import random
 
-from goo_service.records import answers
+from goo_service.records import acts
 from records_trial import HOLDERS
 from goo_service.common.rules import ISSUER
 
@@ -31,14 +31,14 @@ def by_chance(chance, acts):
 
 def texts(tally, service):
     """With the index and without it, each viewer finds what he sees, all of it, and nothing by what he does not see."""
-    few, whole = answers.FEW, service.items(ISSUER, 'acts')
+    few, whole = acts.FEW, service.items(ISSUER, 'acts')
     asked = {viewer: list(wanted(service, viewer, whole)) for viewer in (ISSUER, *HOLDERS, 'STRANGER')}
     found = {viewer: sum(bool(acts) for *_, acts in questions) for viewer, questions in asked.items()}
     tally.check(f'how many texts of {COUNT + len(ODD)} each viewer finds: {found}', [viewer for viewer in found if (found[viewer] < 5) != (viewer == 'STRANGER')])
-    for named, answers.FEW in (('by the index', 0), ('by a plain look', few)):
+    for named, acts.FEW in (('by the index', 0), ('by a plain look', few)):
         tally.check(f'texts are found {named}, and by nobody who does not see them', [
             (viewer, text, besides, shown[:5], acts[:5]) for viewer, questions in asked.items() for text, besides, acts in questions if (shown := ids(service, viewer, q=text, **besides)) != acts[:FIRST]])
-    answers.FEW = few
+    acts.FEW = few
 
 
 def ids(service, viewer, **parameters):

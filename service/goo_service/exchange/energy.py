@@ -1,8 +1,9 @@
-"""Whether a device can have made what a peer brings of it: what exceeds that is held for the operator.
+"""Whether a device can have made what a peer brings of it: what exceeds that is held for the
+operator.
 
-A lot is what one device made in one period. The most that the registry itself lets a device declare is
-its capacity in 24 hours a day, and one hour more for the change of the clocks; a certificate is 1 MWh,
-and what was carried from the period before is less than one.
+A lot is what one device made in one period. The most that the registry itself lets a device declare
+is its capacity in 24 hours a day, and one hour more for the change of the clocks; a certificate is
+1 MWh, and what was carried from the period before is less than one.
 """
 import datetime
 import re
@@ -13,6 +14,7 @@ from dataclasses import field
 
 from goo_service.exchange.common import Notice
 from goo_service.exchange.common import Part
+from goo_service.exchange.common import Span
 
 MWH = 1_000_000
 """Wh of a certificate."""
@@ -20,8 +22,6 @@ DAY = re.compile('[0-9]{4}-[0-9]{2}-[0-9]{2}')
 DEVICE = re.compile('[0-9]{18}')
 LARGEST = 10 ** 11
 """W of the largest device that the registry takes."""
-Range = tuple[int, int]
-"""The numbers of certificates: the first and the last."""
 Period = tuple[str, str, str]
 """A device, the first day and the last day."""
 
@@ -50,28 +50,26 @@ class Lot:
 
 
 def lot_of(part: Part) -> Lot | None:
-    """The lot of a part. None where its values have another form: the registry refuses that notice."""
-    of = part.lot
-    if not isinstance(of, Mapping):
+    """The lot of a part. None where its values have another form: the registry refuses that
+    notice."""
+    of = part.lot if isinstance(part.lot, Mapping) else {}
+    capacity = of.get('capacity_w')
+    texts = [of.get(name) for name in ('device', 'first_day', 'last_day')]
+    device, first_day, last_day = (text if isinstance(text, str) else '' for text in texts)
+    if not (DEVICE.fullmatch(device) and DAY.fullmatch(first_day) and DAY.fullmatch(last_day)):
         return None
-    device, capacity = of.get('device'), of.get('capacity_w')
-    days = of.get('first_day'), of.get('last_day')
-    if not (isinstance(device, str) and DEVICE.fullmatch(device) and type(capacity) is int):
+    if type(capacity) is not int or not 0 < capacity <= LARGEST:
         return None
-    if not all(isinstance(day, str) and DAY.fullmatch(day) for day in days):
-        return None
-    if not 0 < capacity <= LARGEST:
-        return None
-    lot = Lot(device, *days, capacity)
+    lot = Lot(device, first_day, last_day, capacity)
     try:
         return lot if lot.hours > 0 else None
     except ValueError:          # no day of the calendar
         return None
 
 
-def merged(ranges: Iterable[Range]) -> list[Range]:
+def merged(ranges: Iterable[Span]) -> list[Span]:
     """The same numbers in as few ranges as there can be."""
-    found: list[Range] = []
+    found: list[Span] = []
     for first, last in sorted(ranges):
         if found and first <= found[-1][1] + 1:
             found[-1] = (found[-1][0], max(last, found[-1][1]))
@@ -84,22 +82,22 @@ def merged(ranges: Iterable[Range]) -> list[Range]:
 class Energy:
     """The certificates of a peer's own devices that have come from it, by device and period."""
     peer: int
-    known: dict[Period, list[Range]] = field(default_factory=dict)
+    known: dict[Period, list[Span]] = field(default_factory=dict)
 
-    def lots_of(self, notice: Notice) -> list[tuple[Lot, Range]]:
+    def lots_of(self, notice: Notice) -> list[tuple[Lot, Span]]:
         """What a notice brings of the peer's own devices. What others made is no matter here."""
         parts = ((lot_of(part), part) for part in notice.parts if part.origin == self.peer)
-        return [(lot, (part.first, part.last)) for lot, part in parts if lot]
+        return [(lot, part.span) for lot, part in parts if lot]
 
-    def gathered(self, notice: Notice) -> dict[Period, list[Range]]:
+    def gathered(self, notice: Notice) -> dict[Period, list[Span]]:
         """The ranges of each device and period, those of this notice among them."""
-        found: dict[Period, list[Range]] = {}
+        found: dict[Period, list[Span]] = {}
         for lot, numbers in self.lots_of(notice):
             before = found.get(lot.period, self.known.get(lot.period, []))
             found[lot.period] = merged([*before, numbers])
         return found
 
-    def doubt(self, notice: Notice) -> str:
+    def doubt_about(self, notice: Notice) -> str:
         """Why a notice is held; nothing where each device can have made what came of it."""
         ranges = self.gathered(notice)
         for lot, _ in self.lots_of(notice):
@@ -110,6 +108,6 @@ class Energy:
                         f'{lot.most} at most')
         return ''
 
-    def take(self, notice: Notice) -> None:
+    def add(self, notice: Notice) -> None:
         """Notes a notice that was imported."""
         self.known.update(self.gathered(notice))

@@ -1,27 +1,32 @@
 """Another registry's front door, where we sign in to read what it shows us."""
 import base64
 import http.client
-import json
-import pathlib
-import re
 import ssl
 import time
 import urllib.parse
+from collections.abc import Mapping
+from dataclasses import dataclass
+from pathlib import Path
+from typing import Any
 
-from goo_service.exchange.common import LARGEST, Again
+from goo_service.exchange.common import Again
+from goo_service.exchange.common import LARGEST
 from goo_service.exchange.signature import is_signed
+from goo_service.exchange.states import State
+from goo_service.exchange.states import parse_state
 
-DEADLINE = 120                  # seconds for all that a peer is asked in one run
-WORDS = re.compile(r'[A-Za-z0-9 :,.]{1,160}')
-CHAIN = re.compile('[0-9a-f]{64}|')
-POSITION = re.compile('[1-9][0-9]{0,8}')
+DEADLINE = 120
+"""Seconds for all that a peer answers in one run."""
+PATIENCE = 60
+"""Seconds for one connection."""
 
 
 class Bounded(ssl.SSLSocket):
     """A connection that ends at a deadline, however little comes at a time."""
-    deadline = None
 
-    def recv_into(self, *words):
+    deadline: float | None = None
+
+    def recv_into(self, *words: Any) -> int:
         if self.deadline is not None:
             left = self.deadline - time.monotonic()
             if left <= 0:
@@ -30,29 +35,26 @@ class Bounded(ssl.SSLSocket):
         return super().recv_into(*words)
 
 
-def is_count(value):
-    return type(value) is int and 0 <= value < 10 ** 9
+@dataclass(frozen=True)
+class Response:
+    """Status and body of an answer."""
+
+    status: int
+    body: bytes
 
 
-def state_of(text, sender, addressee):
-    """What a state says. Again where it is no state of this sender for this addressee."""
-    try:
-        state = json.loads(text)
-        told = state['inbox']
-        good = ((state['sender'], state['addressee']) == (sender, addressee) and is_count(state['generation']) and type(state['restoring']) is bool
-                and all(is_count(of['highest']) and CHAIN.fullmatch(of['chain']) for of in (state['outbox'], told)) and is_count(told['generation'])
-                and all(POSITION.fullmatch(position) and WORDS.fullmatch(of['became']) and type(of['settled']) is bool for position, of in told['refused'].items()))
-    except (ValueError, TypeError, KeyError, AttributeError, RecursionError):
-        good = False
-    if not good:
-        raise Again('what it shows as its state is none of its states for us')
-    return state
+@dataclass(frozen=True)
+class Signed:
+    """A text and its signature, which its owner made."""
+
+    text: str
+    signature: str
 
 
 class Peer:
-    """One peer. All that is asked of it in a run has one deadline, and each answer a largest size."""
+    """One peer. All that it answers in a run has one deadline, and each answer a largest size."""
 
-    def __init__(self, code, section):
+    def __init__(self, code: int, section: Mapping[str, str]) -> None:
         self.code = code
         url = urllib.parse.urlsplit(section['url'])
         if url.scheme != 'https' or not url.hostname or url.path not in ('', '/'):
@@ -61,105 +63,130 @@ class Peer:
         self.key = section.get('key')
         self.seconds = int(section.get('seconds', DEADLINE))
         self.authority = section.get('authority')
-        self.certificate = (section['certificate'], section['certificate_key']) if 'certificate' in section else None
-        self.user = None if self.certificate else (section['user'], section['password_file'])
-        self.tls = self.head = self.connection = self.until = None
+        self.certificate = None
+        if 'certificate' in section:
+            self.certificate = section['certificate'], section['certificate_key']
+        else:
+            self.user, self.password_file = section['user'], Path(section['password_file'])
+        self.tls: ssl.SSLContext | None = None
+        self.head: dict[str, str] = {}
+        self.connection: http.client.HTTPSConnection | None = None
+        self.until = 0.0
 
-    def begin(self):
+    def begin(self) -> None:
         """From now on the deadline runs."""
         self.until = time.monotonic() + self.seconds
         if self.tls is None:
             self.read_files()
 
-    def read_files(self):
+    def read_files(self) -> None:
         """The files of its section. A fault of them keeps nobody else waiting."""
-        tls, self.head = ssl.create_default_context(cafile=self.authority), {}
+        tls = ssl.create_default_context(cafile=self.authority)
         tls.sslsocket_class = Bounded
         if self.certificate:
             tls.load_cert_chain(*self.certificate)
         else:
-            user, password = self.user[0], pathlib.Path(self.user[1]).read_text().strip()
-            self.head['Authorization'] = 'Basic ' + base64.b64encode(f'{user}:{password}'.encode()).decode()
+            password = self.password_file.read_text().strip()
+            word = base64.b64encode(f'{self.user}:{password}'.encode()).decode()
+            self.head['Authorization'] = f'Basic {word}'
         self.tls = tls
 
-    def end(self):
+    def close(self) -> None:
         if self.connection:
             self.connection.close()
         self.connection = None
 
-    def left(self):
+    def left(self) -> float:
+        """The seconds that are left."""
         left = self.until - time.monotonic()
         if left <= 0:
             raise Again(f'its answers take more than {self.seconds} seconds')
         return left
 
-    def answer(self, name):
-        """Status and bytes of one answer."""
+    def connect(self) -> http.client.HTTPSConnection:
+        """A connection that is open."""
         if self.connection is None or self.connection.sock is None:
-            self.connection = http.client.HTTPSConnection(self.host, self.port, context=self.tls, timeout=min(60, self.left()))
+            self.connection = http.client.HTTPSConnection(
+                self.host, self.port, context=self.tls, timeout=min(PATIENCE, self.left()))
             self.connection.connect()
-            self.connection.sock.deadline = self.until
-        self.connection.request('GET', f'/notices/{name}', headers=self.head)
-        answer = self.connection.getresponse()
-        return answer.status, answer.read(LARGEST + 1)
+            if isinstance(self.connection.sock, Bounded):
+                self.connection.sock.deadline = self.until
+        return self.connection
 
-    def answered(self, name):
-        """Status and bytes of an answer. Nothing asked here does harm when it is asked twice, so once more where none came."""
-        for last in (False, True):
-            try:
-                self.left()
-                return self.answer(name)
-            except (OSError, http.client.HTTPException) as fault:
-                self.end()
-                self.left()
-                if last:
-                    raise Again(f'no answer: {type(fault).__name__} {fault}'.strip()) from fault
+    def get(self, name: str) -> Response:
+        """One answer."""
+        connection = self.connect()
+        connection.request('GET', f'/notices/{name}', headers=self.head)
+        answer = connection.getresponse()
+        return Response(answer.status, answer.read(LARGEST + 1))
 
-    def ask(self, name):
+    def response(self, name: str) -> Response:
+        """An answer. No request of the exchange does harm when it comes twice, so it is sent once
+        more where no answer came."""
+        self.left()
+        try:
+            return self.get(name)
+        except (OSError, http.client.HTTPException):
+            self.close()
+        self.left()
+        try:
+            return self.get(name)
+        except (OSError, http.client.HTTPException) as fault:
+            self.close()
+            self.left()
+            raise Again(f'no answer: {type(fault).__name__} {fault}'.strip()) from fault
+
+    def fetch(self, name: str) -> str | None:
         """The text at a name; None where there is nothing."""
-        status, body = self.answered(name)
-        while status == 429:            # more than its front door takes of us in a second
+        response = self.response(name)
+        while response.status == 429:       # more than its front door takes of us in a second
             time.sleep(min(1, self.left()))
-            status, body = self.answered(name)
-        if status == 404:
+            response = self.response(name)
+        if response.status == 404:
             return None
-        if status != 200:
-            raise Again(f'its front door answered {status}')
-        if len(body) > LARGEST:
-            self.end()
+        if response.status != 200:
+            raise Again(f'its front door answered {response.status}')
+        if len(response.body) > LARGEST:
+            self.close()
             raise Again('an answer that is too long')
         try:
-            return body.decode()
+            return response.body.decode()
         except UnicodeDecodeError as fault:
             raise Again('an answer that is not UTF-8') from fault
 
-    def signed(self, name, public):
-        """The text at a name and its signature, by the owner of this public key; None where there is no text."""
-        for _ in range(2):              # once more: a state may have changed between the two answers
-            text = self.ask(name)
+    def fetch_signed(self, name: str, public: str | None) -> Signed | None:
+        """The text at a name with its signature, by the owner of this public key; None where there
+        is no text."""
+        for _ in range(2):              # once more: a state may have changed between the two
+            text = self.fetch(name)
             if text is None:
                 return None
             if not public:
                 raise Again('its section has no key, so nothing of it can be believed')
-            signature = self.ask(f'{name}.sig') or ''
+            signature = self.fetch(f'{name}.sig') or ''
             if is_signed(text, signature, public):
-                return text, signature
+                return Signed(text, signature)
         raise Again(f'{name} is not signed by the key of its sender')
 
-    def state(self, addressee):
+    def fetch_state(self, addressee: int) -> State:
         """What it shows, and what it has of ours."""
-        found = self.signed('state', self.key)
+        found = self.fetch_signed('state', self.key)
         if found is None:
-            raise Again('it shows us no outbox of ours: has its list of callers our user as a peer, and has its exchange run?')
-        return state_of(found[0], self.code, addressee)
+            raise Again('it shows us no outbox of ours: has its list of callers our user as a '
+                        'peer, and has its exchange run?')
+        return parse_state(found.text, self.code, addressee)
 
-    def notice(self, position):
+    def fetch_notice(self, position: int) -> Signed:
         """What stands for us at a position, and its signature."""
-        return self.signed(position, self.key) or self.missing(position)
+        return self.must(str(position), self.fetch_signed(str(position), self.key))
 
-    def taken(self, position, public):
+    def fetch_ours(self, position: int, public: str) -> str:
         """What it has of ours at a position, signed by us."""
-        return (self.signed(f'taken-{position}', public) or self.missing(f'taken-{position}'))[0]
+        name = f'taken-{position}'
+        return self.must(name, self.fetch_signed(name, public)).text
 
-    def missing(self, name):
-        raise Again(f'its state speaks of {name}, and it is not there')
+    def must(self, name: str, found: Signed | None) -> Signed:
+        """What was found. Again where it is not there."""
+        if found is None:
+            raise Again(f'its state speaks of {name}, and it is not there')
+        return found

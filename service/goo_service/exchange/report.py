@@ -1,67 +1,101 @@
-"""What is shown of a run: our state for each peer, signed, and state.json for the programs of this host."""
+"""What is shown of a run: our state for each peer, signed, and state.json for the programs of this
+host."""
 import json
+from collections.abc import Iterator
+from typing import Any
 
 from goo_service.common.files import write_whole
-from goo_service.exchange.common import Again, Refused, compact, read, read_notice
-from goo_service.exchange.inbox import FRESH, now
+from goo_service.exchange.common import Again
+from goo_service.exchange.common import Notice
+from goo_service.exchange.common import Refused
+from goo_service.exchange.common import compact
+from goo_service.exchange.common import parse_notice
+from goo_service.exchange.common import read_text
+from goo_service.exchange.inbox import Inbox
+from goo_service.exchange.inbox import now
+from goo_service.exchange.ours import Ours
+from goo_service.exchange.states import Incoming
+from goo_service.exchange.states import Known
+from goo_service.exchange.states import Record
+from goo_service.exchange.states import State
+from goo_service.exchange.visit import Visit
 
-NOTHING = {'generation': 0, 'highest': 0, 'chain': '', 'refused': {}}
+Row = dict[str, Any]
+NOTHING = Incoming(generation=0, highest=0, chain='', refused={})
 
 
-def show_states(ours, visits):
+def write_states(ours: Ours, visits: list[Visit]) -> None:
     """Our state for each peer, where it has changed."""
-    inboxes = {visit.code: visit.inbox for visit in visits}
+    inboxes = {visit.code: visit.opened for visit in visits}
     for peer in sorted({*inboxes, *ours.outbox.notices}):
-        if peer in inboxes and inboxes[peer] is None:
-            continue                    # what we have of it isn't known: it goes by what we told last
-        highest = ours.outbox.highest(peer)
-        told = inboxes[peer].told_to_peer() if peer in inboxes else NOTHING
-        text = compact({'sender': ours.code, 'addressee': peer, 'generation': ours.generation, 'restoring': ours.restoring,
-                        'outbox': {'highest': highest, 'chain': ours.outbox.chain(peer, highest)}, 'inbox': told})
-        if read(ours.outbox.place(peer, 'state')) != text:
-            ours.outbox.show(peer, 'state', text)
+        inbox = inboxes.get(peer)
+        if peer in inboxes and inbox is None:
+            continue            # what we have of it isn't known: it goes by what we showed last
+        text = compact(state_of(ours, peer, inbox.state_for_peer() if inbox else NOTHING))
+        if read_text(ours.outbox.place(peer, 'state')) != text:
+            ours.outbox.write(peer, 'state', text)
 
 
-def row(position, notice, became, settled=True):
+def state_of(ours: Ours, peer: int, incoming: Incoming) -> State:
+    """What we show to a peer."""
+    highest = ours.outbox.highest(peer)
+    chain = ours.outbox.chain(peer, highest) or ''
+    return State(sender=ours.code, addressee=peer, generation=ours.generation,
+                 restoring=ours.restoring, outbox={'highest': highest, 'chain': chain},
+                 inbox=incoming)
+
+
+def row_of(position: int, notice: Notice | None, became: str, is_settled: bool = True) -> Row:
     """One notice, as state.json has it."""
-    row = {'position': position, 'number': None, 'became': became, 'settled': settled}
+    row: Row = {'position': position, 'number': None, 'became': became, 'settled': is_settled}
     if notice:
+        parts = [{'first': f'{part.first:014}', 'last': f'{part.last:014}'}
+                 for part in notice.parts]
         row.update(number=notice.number, account=notice.account, certificates=notice.count,
-                   parts=[{'first': f'{part.first:014}', 'last': f'{part.last:014}'} for part in notice.parts])
+                   parts=parts)
     return row
 
 
-def sent(ours, peer, told):
+def sent_rows(ours: Ours, peer: int, known: Known) -> Iterator[Row]:
     """What we sent to a peer, each with what became of it there."""
     for position, notice in enumerate(ours.outbox.of(peer), 1):
-        of = told.get('refused', {}).get(str(position))
+        has_come = position <= known.get('highest', 0)
+        of = known.get('refused', {}).get(str(position))
         if of:
-            yield row(position, notice, of['became'], of['settled'])
+            yield row_of(position, notice, of['became'], of['settled'])
         else:
-            yield row(position, notice, 'accepted' if position <= told.get('highest', 0) else 'published', position <= told.get('highest', 0))
+            yield row_of(position, notice, 'accepted' if has_come else 'published', has_come)
 
 
-def received(inbox):
+def received_rows(inbox: Inbox) -> Iterator[Row]:
     """What a peer sent to us, each with what became of it here."""
-    for position in range(1, inbox.highest + 1):
+    record = inbox.record
+    for position in range(1, record.highest + 1):
         try:
-            notice = read_notice(inbox.taken(position) or '')
+            notice = parse_notice(inbox.fetched(position) or '')
         except (Refused, Again):
             notice = None
-        of = inbox.waiting.get(str(position)) or inbox.settled.get(str(position))
-        became = of['became'] if of else 'accepted' if position <= inbox.cursor else 'fetched'
-        yield {**row(position, notice, became, str(position) not in inbox.waiting), 'why': of['why'] if of else ''}
+        of = record.waiting.get(str(position)) or record.settled.get(str(position))
+        became = 'accepted' if position <= record.cursor else 'fetched'
+        row = row_of(position, notice, of['became'] if of else became,
+                     str(position) not in record.waiting)
+        yield {**row, 'why': of['why'] if of else ''}
 
 
-def write_report(ours, visits, left):
+def write_report(ours: Ours, visits: list[Visit], left: list[str]) -> None:
     """FOLDER/state.json, whole or not at all."""
-    peers = []
     by_code = {visit.code: visit for visit in visits}
-    for peer in sorted({*by_code, *ours.outbox.notices}):
-        visit = by_code.get(peer)
-        inbox = visit.inbox if visit else None
-        of = inbox.record if inbox else FRESH
-        peers.append({'registry': peer, 'generation': of['generation'], 'contact': of['contact'] or None, 'trouble': visit.left if visit else [],
-                      'sent': list(sent(ours, peer, of['told'])), 'received': list(received(inbox)) if inbox else []})
-    report = {'registry': ours.code, 'generation': ours.generation, 'restoring': ours.restoring, 'written': now(), 'trouble': left, 'peers': peers}
+    peers = [peer_of(ours, peer, by_code.get(peer))
+             for peer in sorted({*by_code, *ours.outbox.notices})]
+    report = {'registry': ours.code, 'generation': ours.generation, 'restoring': ours.restoring,
+              'written': now(), 'trouble': left, 'peers': peers}
     write_whole(ours.folder / 'state.json', json.dumps(report, indent=1, sort_keys=True) + '\n')
+
+
+def peer_of(ours: Ours, peer: int, visit: Visit | None) -> Row:
+    """One peer, as state.json has it."""
+    inbox = visit.opened if visit else None
+    of = inbox.record if inbox else Record()
+    return {'registry': peer, 'generation': of.generation, 'contact': of.contact or None,
+            'trouble': visit.left if visit else [], 'sent': list(sent_rows(ours, peer, of.told)),
+            'received': list(received_rows(inbox)) if inbox else []}
