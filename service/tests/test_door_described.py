@@ -16,6 +16,7 @@ import yaml  # type: ignore[import]
 
 import client
 from alone import Alone
+from cases import cases_in
 from described import Description
 from front import FAST
 from front import REQUESTS
@@ -197,3 +198,19 @@ def test_no_route_of_the_records_lets_in_nobody(place: Place, tmp_path: Path) ->
         got = [ask(place, 'GET', path, user).status for user in ('', 'meters')]
         assert [*got, ask(place, 'GET', path, 'anna', 'wrong').status] == [401, 403, 401], path
     assert len(place.records.heads) == before and len(paths) > 5
+
+
+# ------------------------------------------------------------------ worked cases
+
+@pytest.mark.slow
+def test_each_worked_case_goes_through_tls_as_it_is() -> None:
+    """Answered byte for byte as the case has it."""
+    users = {b'ISSUER': 'office', b'SUN': 'anna', b'VOLT': 'bela'}
+    with Place(rate=FAST, cost=4) as own:
+        for case in cases_in():
+            own.new_registry(*case.next_serial)
+            for line, want in zip(case.asked(), case.outcomes.decode().splitlines(), strict=True):
+                caller, _, body = line.partition(b' ')
+                if caller in users and '"Caller"' not in want:      # others can't sign in
+                    answer = ask(own, 'POST', REQUESTS, users[caller], body=body)
+                    assert answer.body.decode() == want, case.name
