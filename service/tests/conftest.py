@@ -22,6 +22,20 @@ hypothesis.settings.register_profile('goo', database=None, deadline=None, print_
 hypothesis.settings.load_profile('goo')
 
 
+def pytest_addoption(parser: pytest.Parser) -> None:
+    parser.addoption('--slow', action='store_true', help='runs the tests of minutes too')
+
+
+def pytest_configure(config: pytest.Config) -> None:
+    config.addinivalue_line('markers', 'slow: takes a minute and more')
+
+
+def pytest_collection_modifyitems(config: pytest.Config, items: list[pytest.Item]) -> None:
+    """Without --slow, tests of minutes are left out."""
+    if not config.getoption('--slow'):
+        items[:] = [item for item in items if not item.get_closest_marker('slow')]
+
+
 @pytest.fixture(scope='session', autouse=True)
 def ways(tmp_path_factory: pytest.TempPathFactory) -> None:
     """A test that runs something as another user has it pass through the folders above its own."""

@@ -3,9 +3,11 @@ stand behind it in the place of the log or of the records.
 """
 import email.message
 import json
+import os
 import pathlib
 import re
 import socket
+import subprocess
 import threading
 from collections.abc import Callable
 from dataclasses import dataclass
@@ -13,6 +15,7 @@ from dataclasses import field
 
 import client
 from loopback import Place
+from service_commands import command
 
 FAST = 200
 """Requests a second, where no limit is tried."""
@@ -83,6 +86,42 @@ def lines_of_log(place: Place) -> list[dict[str, str]]:
         json.loads(line.decode('utf-8'))
         for line in (place.dir / 'front-door.log').read_bytes().splitlines()
     ]
+
+
+def post(place: Place, user: str, **body: object) -> Answer:
+    """A command of a user."""
+    return ask(place, 'POST', REQUESTS, user, body=json.dumps(body).encode())
+
+
+def put_user(place: Place, user: str, *words: str) -> None:
+    """A user of the file of passwords alone; with -D he is taken out."""
+    given = words or ('-bB', '-C', '4')
+    password = () if words else (f'pw-{user}',)
+    subprocess.run(['htpasswd', *given, place.etc / 'users', user, *password], check=True,
+                   capture_output=True)
+
+
+def callers(place: Place, *words: str, path: str = '') -> 'subprocess.CompletedProcess[str]':
+    """A run of goo-callers over the files of a place; `path` has its programs."""
+    own = [f'--list={place.etc}/callers', f'--users={place.etc}/users',
+           f'--map={place.etc}/callers.map']
+    return subprocess.run([*command('goo-callers', place.service), *own, *words], text=True,
+                          capture_output=True, check=False,
+                          env={**os.environ, 'PATH': path or os.environ['PATH']})
+
+
+def workers(place: Place) -> list[int]:
+    """The numbers of nginx's workers."""
+    number = place.nginx.pid
+    return [int(one) for one in
+            pathlib.Path(f'/proc/{number}/task/{number}/children').read_text().split()]
+
+
+def reload(place: Place) -> None:
+    """nginx reads its files again, and the old workers are gone."""
+    before = set(workers(place))
+    subprocess.run([*place.nginx_words(), '-s', 'reload'], check=True, capture_output=True)
+    assert client.comes(lambda: workers(place) and not before & set(workers(place)))
 
 
 @dataclass

@@ -7,7 +7,6 @@ from collections.abc import Iterator
 import pytest
 
 import client
-import intruders
 from front import FAST
 from front import FEW_COMPARISONS
 from front import REQUESTS
@@ -17,8 +16,11 @@ from front import VISITOR
 from front import answer_of
 from front import ask
 from front import at_once
+from front import callers
 from front import lines_of_log
 from front import one_a_minute
+from front import post
+from front import reload
 from front import request
 from front import sent
 from loopback import Place
@@ -28,7 +30,7 @@ from loopback import Place
 def place() -> Iterator[Place]:
     """A front door without limits by the second, for all tests that change nothing of it."""
     with Place(rate=FAST, cost=4) as made:
-        intruders.post(
+        post(
             made, 'office', command='open_holder', key='a1', holder='SUN', name='Sun Power'
         )
         yield made
@@ -343,8 +345,8 @@ def test_line_taken_out_of_the_list_holds_with_the_reload() -> None:
         assert statuses(place, 1, 'anna') == [404]
         listed = (place.etc / 'callers').read_text()
         (place.etc / 'callers').write_text(listed.replace('anna SUN\n', ''))
-        intruders.callers(place)
-        intruders.reload(place)
+        callers(place)
+        reload(place)
         assert statuses(place, 1, 'anna') == [403]
         assert len(place.relay.heads) == before + 1
 
@@ -416,7 +418,7 @@ def test_revoked_certificate_signs_in_no_more() -> None:
     with Place(rate=FAST, certificates=True, cost=4) as place:
         assert place.ask(None, 'GET', '/v1/certificates/1', certificate='anna')[0] == 404
         place.revoke('anna')
-        intruders.reload(place)
+        reload(place)
         status, head, text = place.ask(None, 'GET', '/v1/certificates/1', certificate='anna')
         assert (status, head['Content-Type'], 'certificate' in json.loads(text)['error']) == (
             400,

@@ -1,6 +1,9 @@
 """The front door's host: a balancer in front, nginx that ends, and who reads the files of nginx."""
+import dataclasses
+import os
 import pathlib
 import re
+import shutil
 import socket
 import subprocess
 from collections.abc import Iterator
@@ -10,12 +13,14 @@ import pytest
 import client
 from front import FAST
 from front import FEW_COMPARISONS
+from front import REQUESTS
 from front import STRANGER
 from front import Standin
 from front import VISITOR
 from front import answer_of
 from front import ask
 from front import lines_of_log
+from front import post
 from front import request
 from front import sent
 from house import SERVICE
@@ -227,3 +232,156 @@ def test_log_is_for_root_and_its_group(tmp_path: pathlib.Path) -> None:
     assert (
         log.read_text() == 'kept\n' and log.owner() == 'www-data' and log.parent.owner() == 'root'
     )
+
+
+# ------------------------------------------------------------------ the list of callers
+
+LISTS = {'office ISSUER\noffice SUN\n': 'office stands in',
+         'office ISSUER\nOffice SUN\n': 'Office differs from office',
+         'office\n': 'USER CALLER [ROLE]', 'anna sun\n': "sun is no holder's code",
+         'anna SUN boss\n': 'boss is no role', 'registry09 peer 9\n': 'two digits',
+         'registry09 peer 00\n': 'two digits', '"anna b" SUN\n': 'no blank',
+         '"anna SUN\n': 'a quote', 'änna SUN\n': 'ASCII', 'anna:b SUN\n': 'no colon'}
+HASH = '$2y$08$6oKgfgcaPPdrJFmNPb8Vn.zoMilNsYJFKY9NiC9vva1cP3n9xG/2y'
+
+
+@dataclasses.dataclass
+class Listed:
+    """Files of callers in a folder, and the run of goo-callers over them."""
+
+    folder: pathlib.Path
+
+    def run(self, *words: str, path: str = '') -> 'subprocess.CompletedProcess[str]':
+        own = [f'--list={self.folder}/callers', f'--users={self.folder}/users',
+               f'--map={self.folder}/map']
+        return subprocess.run([*command('goo-callers', SERVICE), *own, *words], text=True,
+                              capture_output=True, check=False,
+                              env={**os.environ, 'PATH': path or os.environ['PATH']})
+
+    def calls(self, **statuses: int) -> tuple['subprocess.CompletedProcess[str]', list[str]]:
+        """What --reload calls where these programs end with these statuses."""
+        called = self.folder / 'called'
+        for program, status in statuses.items():
+            file = self.folder / program
+            file.write_text(f'#!/bin/sh\necho {program} $* >> {called}\nexit {status}\n')
+            file.chmod(0o755)
+        out = self.run('--reload', path=f'{self.folder}:{os.environ["PATH"]}')
+        return out, called.read_text().splitlines()
+
+
+@pytest.fixture
+def listed(tmp_path: pathlib.Path) -> Listed:
+    (tmp_path / 'callers').write_text('office ISSUER\n')
+    (tmp_path / 'users').write_text(f'office:{HASH}\n')
+    made = Listed(tmp_path)
+    assert made.run().returncode == 0
+    return made
+
+
+@pytest.mark.parametrize('text', LISTS)
+def test_a_list_with_a_fault_leaves_the_map(listed: Listed, text: str) -> None:
+    kept = (listed.folder / 'map').read_text()
+    (listed.folder / 'callers').write_text(text)
+    out = listed.run()
+    assert out.returncode == 1 and LISTS[text] in out.stderr
+    assert (listed.folder / 'map').read_text() == kept
+
+
+def test_what_does_not_fit_the_passwords_is_told(listed: Listed) -> None:
+    (listed.folder / 'callers').write_text('office ISSUER\nnobody SUN\n')
+    with open(listed.folder / 'users', 'a') as file:
+        file.write(f'bela:{HASH}\nsha:{{SHA}}W6ph5Mm5Pz8GgiULbPgzG37mj9g=\n')
+    out = listed.run()
+    assert out.returncode == 0
+    for told in ('nobody: no password', 'bela: a password and no line', 'sha: a password that'):
+        assert told in out.stderr
+
+
+def test_nginx_is_reloaded_once_it_takes_the_configuration(listed: Listed) -> None:
+    out, called = listed.calls(nginx=0, systemctl=0)
+    assert (out.returncode, called) == (0, ['nginx -t -q', 'systemctl reload nginx'])
+    (listed.folder / 'called').unlink()
+    out, called = listed.calls(nginx=1, systemctl=0)
+    assert (out.returncode, called) == (1, ['nginx -t -q'])
+    assert 'nginx -t -q: status 1' in out.stderr
+
+
+# ------------------------------------------------------------------ the log of the front door
+
+def written(place: Place, count: int) -> list[dict[str, str]]:
+    """The lines of the log, which come after the answers: so many are waited for."""
+    file = place.dir / 'front-door.log'
+    assert client.comes(lambda: file.exists() and file.read_text().count('\n') >= count, 30)
+    return lines_of_log(place)
+
+
+def test_log_has_who_asked_what_and_no_password() -> None:
+    with Place(rate=FAST, cost=4) as place:
+        place.relay.field = 'GOO-Entry: 17'
+        post(place, 'office', command='open_holder', key='log-1.a:b_c', holder='SUN',
+             name='Say \\"key\\": \\"forged\\"')
+        place.relay.field = ''
+        body = b'{"command" : "open_account",\n "key" : "log-2", "holder":"SUN"}'
+        ask(place, 'POST', REQUESTS, 'office', body=body)
+        ask(place, 'GET', '/v1/accounts/1/statement', 'anna')
+        ask(place, 'GET', '/v1/audit', 'anna', 'S3cret-one')
+        ask(place, 'GET', '/v1/audit', 'S3cret-two', 'S3cret-three')
+        ask(place, 'POST', '/v1/declarations', 'office',
+            body=b'key,device,first_day,last_day,gross_wh,aux_wh\nrow-1,1,2,3,4,5\n')
+        got = written(place, 6)
+        every = ''.join(file.read_text() for file in place.dir.glob('*.log'))
+        rotated(place)
+    names = ('user', 'caller', 'status', 'method', 'route', 'key', 'entry')
+    assert [tuple(line[name] for name in names) for line in got] == [
+        ('office', 'ISSUER', '200', 'POST', '/v1/requests', 'log-1.a:b_c', '17'),
+        ('office', 'ISSUER', '200', 'POST', '/v1/requests', 'log-2', ''),
+        ('anna', 'SUN', '200', 'GET', '/v1/accounts/1/statement', '', ''),
+        ('?anna', '', '401', 'GET', '/v1/audit', '', ''),
+        ('', '', '401', 'GET', '/v1/audit', '', ''),
+        ('office', 'ISSUER', '200', 'POST', '/v1/declarations', '', '')]
+    assert {line['address'] for line in got} == {'127.0.0.1'}
+    assert all(re.match(r'\d{4}-\d\d-\d\dT\d\d:\d\d:\d\d', line['time']) for line in got)
+    assert 'S3cret' not in every and 'pw-' not in every
+
+
+def rotated(place: Place) -> None:
+    """logrotate keeps ten years; nginx goes on in a new file."""
+    text = (SERVICE / 'etc/logrotate/goo').read_text()
+    assert re.search(r'(?m)^\s*monthly$', text) and re.search(r'(?m)^\s*rotate 120$', text)
+    conf = place.dir / 'logrotate.conf'
+    conf.write_text(text.replace('/var/log/goo/', f'{place.dir}/').replace('www-data', 'root')
+                    .replace('invoke-rc.d nginx rotate', f'kill -USR1 {place.nginx.pid}'))
+    conf.chmod(0o644)
+    subprocess.run(['logrotate', '-f', '-s', place.dir / 'logrotate.state', conf], check=True,
+                   capture_output=True)
+
+    def is_new() -> bool:
+        ask(place, 'GET', '/v1/audit', 'bela')
+        return (place.dir / 'front-door.log').exists() and bool(lines_of_log(place))
+    assert client.comes(is_new, 30)
+    assert {line['user'] for line in lines_of_log(place)} == {'bela'}
+    old, = place.dir.glob('front-door.log-*')
+    assert 'log-2' in old.read_text()
+
+
+# ------------------------------------------------------------------ room for the registry
+
+def test_watch_tells_of_a_registry_that_outgrows_its_host(tmp_path: pathlib.Path) -> None:
+    file = tmp_path / 'large.db'
+
+    def told(memory: str) -> tuple[int, str]:
+        done = subprocess.run([SERVICE / 'libexec/watch'], text=True, capture_output=True,
+                              check=False, env={**os.environ, 'GOO_DB': str(file),
+                                                'GOO_MEMORY': memory})
+        return done.returncode, done.stdout + done.stderr
+    status, text = told(str(2 << 30))
+    assert status == 1 and str(file) in text, 'no file'
+    os.truncate(os.open(file, os.O_CREAT | os.O_WRONLY), 100 << 20)
+    assert told(str(2 << 30))[0] == 0 and '100 MB' in told(str(2 << 30))[1]
+    assert told(str(250 << 20))[0] == 1 and 'MemoryMax' in told(str(250 << 20))[1]
+    assert told('infinity')[0] == 0
+    os.truncate(os.open(f'{file}-wal', os.O_CREAT | os.O_WRONLY), 400 << 20)
+    assert told(str(1 << 30))[0] == 1, 'the log beside it counts'
+    os.truncate(file, shutil.disk_usage(tmp_path).free + (1 << 30))
+    status, text = told('infinity')
+    assert status == 1 and 'free' in text, 'no room for a copy'

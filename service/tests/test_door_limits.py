@@ -1,0 +1,292 @@
+"""The front door keeps others out of a visitor's way: limits by address, user and holder, slow
+clients, and crowds. Each was seen failing on a door without its guard.
+"""
+import json
+import os
+import shutil
+import socket
+import subprocess
+import sys
+import time
+from collections.abc import Callable
+from concurrent.futures import ThreadPoolExecutor
+
+import pytest
+
+import client
+from front import FAST
+from front import REQUESTS
+from front import Answer
+from front import ask
+from front import post
+from front import request
+from loopback import HOME
+from loopback import Place
+
+HEAD = b'GET /v1/audit HTTP/1.1\r\nHost: localhost\r\n'
+FOUND = '/v1/certificates/1'
+"""The registry answers 404 here, so a request that came through is told from one that did not."""
+FEW = ('zone=goo_rate:10m rate=20r/s', 'zone=goo_rate:10m rate=1r/m')
+
+
+def limited(zone: str, rate: str, few: str, name: str, burst: int) -> tuple[tuple[str, str], ...]:
+    """A limit that a test meets: one a minute, and so many at once beside it."""
+    return ((f'zone={zone} rate={rate}', f'zone={zone} rate=1r/m'),
+            (f'zone={name} burst={few}', f'zone={name} burst={burst}'))
+
+
+def together(act: Callable[[int], Answer], count: int) -> list[int]:
+    """The statuses of many requests at once."""
+    with ThreadPoolExecutor(16) as pool:
+        return [answer.status for answer in pool.map(act, range(count))]
+
+
+def of_one_limit(statuses: list[int], passed: int, burst: int) -> bool:
+    """Whether so many passed at once, a few more as time went on, and all others were too many."""
+    through = statuses.count(passed)
+    return burst < through <= burst + 10 and through + statuses.count(429) == len(statuses)
+
+
+# ------------------------------------------------------------------ limits
+
+def test_the_public_check_tells_nothing_of_users() -> None:
+    limit = ('zone=goo_verify:2m rate=10r/m', 'zone=goo_verify:2m rate=1r/m')
+    with Place(changes=(limit,), cost=4) as place:
+        got = [ask(place, 'GET', '/verify?number=1', 'office', 'wrong', GOO_Caller='ISSUER')
+               for _ in range(15)]
+        assert [answer.status for answer in got] == [404] * 11 + [429] * 4
+        assert {answer.head['GOO-Signed-In'] for answer in got} == {None}
+        heads = ''.join(place.records.heads).lower()
+        assert heads.count('get /verify?number=1 ') == 11
+        assert 'goo-' not in heads and 'authorization' not in heads
+
+
+def test_the_pages_files_have_a_limit_of_their_own() -> None:
+    files = limited('goo_files:10m', '10r/s', '300', 'goo_files', 30)
+    with Place(changes=(*files, *limited('goo_rate:10m', '20r/s', '60', 'goo_rate', 5)),
+               cost=4) as place:
+        got = [ask(place, 'GET', FOUND, 'anna').status for _ in range(8)]
+        assert got == [404] * 6 + [429] * 2
+        names = ('/', '/style.css', '/page.js', '/lists.js')
+        got = together(lambda at: ask(place, 'GET', names[at % 4], 'anna'), 40)
+        assert 31 <= got.count(200) <= 35 and got.count(200) + got.count(429) == 40
+
+
+NAMED = ('    server_tokens       off;\n',
+         '    server_tokens       off;\n    set_real_ip_from 127.0.0.1;\n'
+         '    real_ip_header X-Trial;\n')
+"""The test names the address of a visitor."""
+
+
+def test_a_network_of_ipv6_is_one_address() -> None:
+    with Place(changes=(NAMED, *limited('goo_rate:10m', '20r/s', '60', 'goo_rate', 10)),
+               cost=4) as place:
+        got = together(lambda at: ask(place, 'GET', '/v1/audit', 'anna', 'wrong',
+                                      X_Trial=f'2001:db8:1:2::{at + 1:x}'), 40)
+        assert of_one_limit(got, 401, 10)
+        other = ask(place, 'GET', '/v1/audit', 'anna', 'wrong', X_Trial='2001:db8:1:3::1')
+        assert other.status == 401
+
+
+def test_a_user_has_one_limit_that_no_stranger_uses_up() -> None:
+    user = limited('goo_user:2m     ', '20r/s', '60', 'goo_user', 10)
+    with Place(changes=(NAMED, *user), cost=4) as place:
+        together(lambda at: ask(place, 'GET', FOUND, 'anna', 'wrong',
+                                X_Trial=f'192.0.2.{at + 1}'), 40)
+        assert ask(place, 'GET', FOUND, 'anna', X_Trial='198.51.100.1').status == 404
+        got = together(lambda at: ask(place, 'GET', FOUND, 'anna', X_Trial=f'192.0.2.{at + 1}'), 40)
+        assert of_one_limit(got, 404, 9)
+        assert ask(place, 'GET', FOUND, 'bela', X_Trial='192.0.2.1').status == 404
+
+
+def test_a_holder_writes_so_much_in_a_day() -> None:
+    with Place(changes=limited('goo_writes:2m', '10r/m', '2000', 'goo_writes', 5),
+               cost=4) as place:
+        def write(user: str) -> int:
+            return post(place, user, command='advance', key='k', day='2025-03-01').status
+        assert [write('anna') for _ in range(8)] == [403] * 6 + [429] * 2
+        assert ask(place, 'GET', '/v1/audit', 'anna').status == 403
+        assert write('bela') == 403
+        assert [write('office') for _ in range(8)] == [409] * 8
+
+
+# In a network of its own: the rule on connections, and a server that keeps each one.
+CROWD = """
+import fcntl, json, socket, struct, subprocess, sys
+with socket.socket() as s:
+    fcntl.ioctl(s, 0x8914, struct.pack("16sh", b"lo", 1))           # SIOCSIFFLAGS, IFF_UP
+if sys.argv[1]:
+    subprocess.run(["nft", "-f", sys.argv[1]], check=True)
+door = socket.create_server(("0.0.0.0", 443), backlog=4096)
+def connected(source):
+    s = socket.socket()
+    s.settimeout(10)
+    s.bind((source, 0))
+    try:
+        s.connect(("127.0.0.1", 443))
+        return s
+    except OSError:
+        s.close()
+crowd = [c for c in (connected("127.0.0.2") for _ in range(400)) if c]
+print(json.dumps([len(crowd), connected("127.0.0.3") is not None]))
+"""
+
+
+@pytest.mark.skipif(os.geteuid() != 0 or not shutil.which('nft'), reason='nftables, or root')
+@pytest.mark.parametrize(('rule', 'count'), [('etc/nftables/front.nft', 128), ('', 400)])
+def test_an_address_has_128_connections(rule: str, count: int) -> None:
+    """Without the rule all 400 come in, so a rule that does nothing is seen."""
+    path = str(HOME / 'service' / rule) if rule else ''
+    out = subprocess.run(['unshare', '-n', sys.executable, '-c', CROWD, path], text=True,
+                         capture_output=True, timeout=200, check=False)
+    assert json.loads(out.stdout) == [count, True], out
+
+
+# ------------------------------------------------------------------ slow clients
+
+def held(port: int, count: int, text: bytes, place: Place | None = None,
+         room: int | None = None) -> list[socket.socket]:
+    """Connections that have sent this, and neither send nor read any more."""
+    made = []
+    for _ in range(count):
+        made.append(client.connected(port, 60, place.tls() if place else None, room=room))
+        made[-1].sendall(text)
+    return made
+
+
+def is_ended(stream: socket.socket) -> bool:
+    stream.setblocking(False)
+    try:
+        return stream.recv(4096) == b''
+    except BlockingIOError:
+        return False
+    except OSError as fault:
+        return 'not complete' not in str(fault) and 'did not complete' not in str(fault)
+
+
+def close(streams: list[socket.socket]) -> None:
+    for stream in streams:
+        stream.close()
+
+
+def seconds(place: Place, path: str = '/', user: str = 'anna') -> float:
+    """How long a visitor waits; fails where none is served."""
+    begun = time.monotonic()
+    assert ask(place, 'GET', path, user).status == 200
+    return time.monotonic() - begun
+
+
+PATIENT = (('client_body_timeout       20s', 'client_body_timeout 900s'),
+           ('send_timeout              30s', 'send_timeout 900s'),
+           ('_timeout    300s;', '_timeout 900s;'), ('_timeout        300s;', '_timeout 900s;'))
+"""Nobody is cut off before the test ends, however slow the machine is."""
+HALF = request('POST', REQUESTS, 'anna', body=b'x' * 1000)[:-999]
+
+
+def account_of(place: Place) -> str:
+    """The statement of an account of SUN's, which is opened."""
+    post(place, 'office', command='open_holder', key='a1', holder='SUN', name='Sun Power')
+    post(place, 'office', command='open_account', key='a2', holder='SUN')
+    return '/v1/accounts/1/statement'
+
+
+def test_half_a_body_holds_up_nobody() -> None:
+    with Place(rate=FAST, changes=PATIENT, cost=4) as place:
+        statement = account_of(place)
+        half = held(place.port, 20, HALF, place)
+        assert seconds(place, statement) < 30
+        assert not any(map(is_ended, half))
+        close(half)
+
+
+def test_without_buffers_half_a_body_holds_up_all() -> None:
+    """So the test before can fail."""
+    with Place(rate=FAST, without='proxy_request_buffering', changes=PATIENT, cost=4) as place:
+        account_of(place)
+        before = place.relay.begun
+        half = held(place.port, 1, HALF, place)
+        assert client.comes(lambda: place.relay.begun > before)
+        with pytest.raises((OSError, AssertionError)):
+            client.answered(place.port, request('GET', '/v1/accounts/1/statement', 'anna'),
+                            patience=4, tls=place.tls())
+        close(half)
+
+
+@pytest.mark.slow
+def test_an_answer_that_nobody_reads_leaves_the_registry() -> None:
+    """The system holds little of it, as it would else take it off the registry by itself."""
+    narrow = (' ssl;\n    include', ' ssl sndbuf=8k;\n    include')
+    table = b'key,device,first_day,last_day,gross_wh,aux_wh\n' + b'x\n' * 50000
+    with Place(rate=FAST, changes=(*PATIENT, narrow), cost=4) as place:
+        statement = account_of(place)
+        text = request('POST', '/v1/declarations', 'office', body=table)
+        before = place.relay.begun
+        unread = held(place.port, 2, text, place, room=4096)
+        assert client.comes(lambda: place.relay.begun == before + 2
+                            and place.relay.under_way == 0, seconds=300)
+        assert seconds(place, statement) < 30
+        close(unread)
+
+
+KINDS = {'heads': ('plain', HEAD), 'handshakes': ('port', bytes.fromhex('1603010200'))}
+COUNT = 5000
+
+
+@pytest.mark.slow
+@pytest.mark.parametrize('kind', KINDS)
+@pytest.mark.parametrize('waits', [True, False])
+def test_half_sent_beginnings_hold_up_nobody(kind: str, waits: bool) -> None:
+    """They wait beside a visitor, and are cut off after their time."""
+    name, begin = KINDS[kind]
+    patient = (('client_header_timeout     10s', 'client_header_timeout 900s'),) if waits else ()
+    subprocess.run(['prlimit', f'--pid={os.getpid()}', f'--nofile={COUNT + 1000}'], check=True)
+    with Place(rate=FAST, workers=2, changes=patient, cost=4) as place:
+        half = held(getattr(place, name), COUNT, begin)
+        if waits:
+            assert seconds(place) < 90
+            assert not any(map(is_ended, half))
+        else:
+            assert client.comes(lambda: all(map(is_ended, half)), seconds=50)
+        close(half)
+
+
+@pytest.mark.slow
+def test_statements_whose_reader_left_hold_up_nobody() -> None:
+    """One holder asks for 4,000 runs and leaves, sixty times; few are before the registry."""
+    with Place(cost=4) as place:
+        long_account(place, 2000)
+        text = request('GET', '/v1/accounts/1/statement', 'anna')
+
+        def leave(_: int) -> None:
+            with client.connected(place.port, tls=place.tls()) as stream:
+                stream.sendall(text)
+                time.sleep(0.9)
+        with ThreadPoolExecutor(20) as pool:
+            list(pool.map(leave, range(60)))
+        assert seconds(place, '/v1/accounts/2/statement', 'bela') < 300
+        assert place.relay.most <= 3
+
+
+def long_account(place: Place, count: int) -> None:
+    """An account with twice as many runs: every other certificate is cancelled by itself."""
+    device = '500000000000000012'
+    lines = [('ISSUER', {'command': 'open_holder', 'key': f'h-{holder}', 'holder': holder,
+                         'name': holder}) for holder in ('SUN', 'VOLT')]
+    lines += [('ISSUER', {'command': 'open_account', 'key': f'a-{name}', 'holder': name})
+              for name in ('SUN', 'VOLT')]
+    lines += [('ISSUER', {'command': 'register_device', 'key': 'd', 'account': 1, 'country': 'DE',
+                          'capacity_w': 2_000_000_000, 'commissioned': '2020-06-15',
+                          'device': device, 'site': 'North', 'source': 'F01010100',
+                          'support': 'none', 'tech': 'T010000'}),
+              ('ISSUER', {'command': 'declare', 'key': 'x', 'device': device, 'aux_wh': 0,
+                          'first_day': '2025-01-01', 'last_day': '2025-01-31',
+                          'gross_wh': 2_000_000 * count})]
+    lines += [('SUN', {'command': 'cancel', 'key': f'c{at}', 'account': 1, 'beneficiary': 'B',
+                       'first': f'07{2 * at + 1:012}', 'last': f'07{2 * at + 1:012}',
+                       'use_first': '2025-01-01', 'use_last': '2025-01-31'})
+              for at in range(count)]
+    place.stop_registry()
+    text = ''.join(f'{caller} {json.dumps(body)}\n' for caller, body in lines)
+    subprocess.run([place.goo, 'run', '--db', place.db], input=text, text=True, check=True,
+                   capture_output=True)
+    place.start_registry()
