@@ -1,4 +1,4 @@
-"""A host on which the package is installed, for tools/trials/installed: commands, units, requests."""
+"""A host with the package, for tools/trials/installed: commands, units, requests."""
 import json
 import re
 import subprocess
@@ -29,7 +29,8 @@ def shell(text: str) -> Done:
 def blocks(heading: str) -> list[str]:
     """The blocks of commands in a section of the handbook."""
     for page in sorted((HOME / 'docs').glob('*.md')):
-        section = re.search(rf'(?ms)^##+ {heading}$(.*?)(?=^## |\Z)', page.read_text(encoding='utf-8'))
+        section = re.search(rf'(?ms)^##+ {heading}$(.*?)(?=^## |\Z)',
+                            page.read_text(encoding='utf-8'))
         if section:
             return re.findall(r'(?ms)^ *```sh\n(.*?)^ *```$', section[1])
     return sys.exit(f'no page of docs/ has a section "{heading}"')

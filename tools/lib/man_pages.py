@@ -41,7 +41,8 @@ class Manual:
         body = self.text.replace(usage[0], '', 1) if usage else self.text
         parts = (('SYNOPSIS', usage[1] if usage else ''), ('DESCRIPTION', body),
                  ('OPTIONS', self.options))
-        rest = ''.join(f'.SH {head}\n.nf\n{roff(text.strip())}\n.fi\n' for head, text in parts if text)
+        rest = ''.join(f'.SH {head}\n.nf\n{roff(text.strip())}\n.fi\n' for head, text in parts
+                       if text)
         return PAGE.format(title=self.name.upper(), name=roff(self.name), section=self.section,
                            day=day, version=version, summary=roff(first[:1].lower() + first[1:]),
                            rest=rest)
@@ -85,7 +86,8 @@ def help_of(program: Path) -> str:
 
 def manuals(program: Path) -> list[Manual]:
     """The manuals of the program, of the commands and of the scripts."""
-    commands = [Manual(name, 8, head_of(SERVICE / f'{module.replace(".", "/")}.py'), options_of(name))
+    commands = [Manual(name, 8, head_of(SERVICE / f'{module.replace(".", "/")}.py'),
+                       options_of(name))
                 for name, module in service_commands.entries_of(SERVICE).items()]
     scripts = [Manual(f'goo-{path.name}', 8, head_of(path)) for path in LIBEXEC.iterdir()]
     return [Manual('goo', 1, help_of(program)), *commands, *scripts]

@@ -95,7 +95,8 @@ def become_systemd(folder: Path, words: list[str]) -> None:
     make_devices(root / 'dev')
     for left in (root / 'var/lib').glob('goo*'):        # what another program left on this machine
         shutil.rmtree(left)
-    (root / 'var/lib/man-db/auto-update').unlink(missing_ok=True)       # an index of pages takes long
+    # an index of pages takes long
+    (root / 'var/lib/man-db/auto-update').unlink(missing_ok=True)
     make_units(root, words)
     for name in ('docs', 'tools'):
         shutil.copytree(HOME / name, root / 'trial' / name)
@@ -113,7 +114,8 @@ def become_systemd(folder: Path, words: list[str]) -> None:
 def may_be_had(folder: Path) -> bool:
     """Whether this machine allows mounts and namespaces of one's own."""
     words = ['unshare', '-mn', 'mount', '-t', 'tmpfs', 'tmpfs', str(folder)]
-    return not os.geteuid() and subprocess.run(words, capture_output=True, check=False).returncode == 0
+    return not os.geteuid() and subprocess.run(words, capture_output=True,
+                                               check=False).returncode == 0
 
 
 def has_ended(text: str) -> bool:
@@ -138,7 +140,8 @@ def output(folder: Path, words: list[str], seconds: float) -> str:
     The command names files below /trial, where docs/ and tools/ are.
     """
     groups = own_cgroups(folder.name)
-    begin = ['unshare', '-mnpfCui', '--kill-child', sys.executable, '-B', __file__, str(folder), *words]
+    begin = ['unshare', '-mnpfCui', '--kill-child', sys.executable, '-B', __file__, str(folder),
+             *words]
     script = f'{entering(groups)} && exec "$@"' if groups else 'exec "$@"'
     with open(folder / 'said', 'wb') as said:
         process = subprocess.Popen(['sh', '-c', script, 'sh', *begin], stdin=subprocess.DEVNULL,

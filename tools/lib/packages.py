@@ -1,5 +1,5 @@
-"""Packages of trials: each is made in a clone of a commit, where a program of the trial is marked as
-proved. The packages go nowhere else.
+"""Packages of trials. Each is made in a clone of a commit, where a program of the trial is marked
+as proved. The packages go nowhere else.
 """
 import os
 import subprocess
@@ -34,7 +34,8 @@ class Clone:
     def __init__(self, folder: Path, commit: str = 'HEAD') -> None:
         self.folder, self.built = folder, folder / 'crates/goo/out/goo'
         carried_out('git', 'clone', '--quiet', '--no-checkout', HOME, folder)
-        carried_out('git', 'checkout', '--quiet', carried_out('git', 'rev-parse', commit, cwd=HOME).strip(),
+        carried_out('git', 'checkout', '--quiet',
+                    carried_out('git', 'rev-parse', commit, cwd=HOME).strip(),
                     cwd=folder)
         self.built.parent.mkdir(parents=True)
 
