@@ -1,11 +1,7 @@
 """Single trials of one host with its log, for tools/trials/replicas."""
-import archives
-from goo_service.log import position
 import collections
 import contextlib
-import io
 import itertools
-import json
 import os
 import random
 import re
@@ -19,8 +15,6 @@ import time
 from replica_trial import (Bare, CRASHING, GOO, REPLICA, REPLICA_LOG, VERSION, Weak, ask, carried_out, check, day, dump, group_of, gsrn, must, run, tally, until)
 import client
 from goo_service.log import entries
-from goo_service.log.archive import Archive
-from goo_service.log.archive import compress
 
 
 def restart(host, *names):
@@ -50,69 +44,6 @@ def same_as_replay(cluster, what):
     for name in ("goo", "replica"):
         host.release(name)
     cluster.even(60)
-
-
-def entry_form(cluster, work):
-    """Each byte of an archive that is changed is noticed, each end that is cut off is mended."""
-    folder = cluster.folder / "form"
-    bodies = [b'{"command":"open_holder","key":"a1","holder":"SUN","name":"Sun \xc3\xa4"}', b'{"command":"open_account","key":"a2","holder":"SUN"}', b"\xff\xfe no JSON", b"", b'"' * 300, b"\x00\r\n",
-              b'{"command":"open_account","key":"a3","holder":"NONE"}', b'{"command":"open_account","key":"a4","holder":"SUN"}']
-    archives.make_archive(GOO, folder, [("office", "ISSUER", "/v1/requests", body) for body in bodies])
-    read = list(entries.read_archive(folder, 0, archives.KEY))
-    check("an archive over the end of a month has each body as it came", [one.entry.body for one in read] == bodies and len(entries.months(folder)) == 2, read)
-    compress(folder)
-    check("and so it has with its first month compressed, from each entry on", all([one.entry.n for one in entries.read_archive(folder, n, archives.KEY)] == list(range(n + 1, 9)) for n in range(9)))
-    last = folder / "2025-03.jsonl"
-    whole = last.read_bytes()
-    unseen = [at for at in range(0, len(whole), 5) if not is_noticed(folder, last, whole, at)]
-    check(f"one bit changed in each of {len(whole) // 5} places is noticed", not unseen, unseen)
-    lost = []
-    for at in range(0, len(whole), 11):
-        last.write_bytes(whole[:at])
-        with contextlib.redirect_stderr(io.StringIO()):
-            told, mended = [one.entry.n for one in entries.read_archive(folder)], Archive(folder).last.entry.n
-        lost += [at] if told[-1] != mended or mended != 5 + whole[:at].count(b"\n") or last.read_bytes() != whole[:whole[:at].rfind(b"\n") + 1] else []
-    check("cut off at each place, it ends with its last whole line", not lost, lost)
-
-
-def is_noticed(folder, file, whole, at):
-    file.write_bytes(whole[:at] + bytes([whole[at] ^ 1]) + whole[at + 1:])
-    try:
-        return len(list(entries.read_archive(folder, 0, archives.KEY))) < 8       # a line end that is none leaves the rest for a line not yet whole
-    except entries.Broken:
-        return True
-
-
-def roles(cluster, work):
-    host = cluster.hosts[0]
-    before = cluster.even(30)
-    table = b"key,device,first_day,last_day,gross_wh,aux_wh\nroles-1,500000000000000012,2025-02-01,2025-02-14,5,0\n"
-    declare, account = b'{"command":"declare","key":"roles-2"}', b'{"command":"open_account","key":"roles-3","holder":"C0"}'
-    two = b'{"command":"open_account","command":"declare","key":"roles-4","holder":"C0"}'
-    asked = [("reads", "GET", "/v1/audit", b"", 200), ("reads", "POST", "/v1/requests", account, 403), ("reads", "POST", "/v1/declarations", table, 403), ("declares", "GET", "/v1/audit", b"", 403),
-             ("declares", "POST", "/v1/declarations", table, 200), ("declares", "POST", "/v1/requests", declare, 400), ("declares", "POST", "/v1/requests", account, 403), ("declares", "POST", "/v1/requests", two, 403),
-             ("declares", "POST", "/v1/requests", b"[" * 2000, 403), ("all", "GET", "/v1/audit", b"", 403), ("full", "POST", "/v1/requests", account, 200), (None, "GET", "/v1/audit", b"", 200),
-             (None, "POST", "/v1/requests", account, 403), ("", "POST", "/v1/requests", account, 403), (None, "POST", "/v1/declarations", table, 403), ("all", "POST", "/v1/requests", account, 403)]
-    wrong = [(role, method, target, status) for role, method, target, body, right in asked if (status := ask(host, method, target, "ISSUER", body, 20, role=role)[0]) != right]
-    check(f"a role's word decides before the log: {len(asked)} requests", not wrong, wrong)
-    after = cluster.even(30)
-    tried = [one for one in entries.read_archive(host.state / "archive", before) if not carried_out(one.entry)]
-    said = host.log("replica")
-    check("what a role does not allow is no entry, and the journal has who tried it; without a role reads alone are allowed", after == before + 3 and not tried and "refused by role: u-ISSUER (declares) POST /v1/requests from 192.0.2.7" in said, (before, after, tried, said[-500:]))
-    old = archives.make_archive(GOO, cluster.folder / "old-roles", [("office", "ISSUER", "/v1/requests", account, "reads"), ("", "ISSUER", "/v1/requests", b'{"command":"open_holder","key":"r","holder":"SUN","name":"S"}', "")])
-    check("an older archive has such entries: 403, and one without a role was carried out", [(one.entry.role, one.outcome.status) for one in entries.read_archive(cluster.folder / "old-roles", 0, archives.KEY)] == [("reads", 403), ("", 200)], old)
-    callers = ask(host, "POST", "/v1/requests", "ISSUER\r\nGOO-Caller: C0", account, 20)[0]
-    users = ask(host, "POST", "/v1/requests", "ISSUER", account, 20, user="anna\r\nGOO-User: bela")[0]
-    check("two callers, or two users, are no caller: 403", (callers, users) == (403, 403), (callers, users))
-
-
-def as_before(cluster, work):
-    """What is no entry is answered as the registry itself answers it."""
-    host = cluster.hosts[0]
-    bare = type("Registry", (), {"fd": host.fd, "port": host.inner})()
-    asked = [("GET", "/"), ("GET", "/v1/requests"), ("PUT", "/v1/audit"), ("DELETE", "/v1/requests"), ("POST", "/v1/requests?a"), ("POST", "/v1/requests/"), ("GET", "/v1/accounts/1/statement"), ("GET", "/v1/accounts/x/statement"), ("POST", "/v1/audit")]
-    pick = lambda one, line: (ask(one, *line, "ISSUER", b"", 20)[0], ask(one, *line, "ISSUER", b"", 20)[3])
-    check(f"{len(asked)} requests that are no entries are answered as by the registry itself", all(pick(host, line) == pick(bare, line) for line in asked))
 
 
 def some(work, count, tag):
@@ -319,42 +250,6 @@ def full_disk(cluster, work):
     same_as_replay(cluster, "after the full disk")
 
 
-def no_registry(cluster, work):
-    host = cluster.hosts[0]
-    host.hold("goo", signal.SIGKILL)
-    before, began = host.says("does not answer"), time.monotonic()
-    status = ask(host, "POST", "/v1/requests", "ISSUER", b'{"command":"open_account","key":"down","holder":"C1"}', 30)[0]
-    took = time.monotonic() - began
-    host.release("goo")
-    done = work.request("ISSUER", 0, "open_account", "down", holder="C1")
-    check(f"the registry down: {before.get('why')!r}; a write is 503 after {took:.2f} s and no entry; later {done['reply'].get('outcome')}", status == 503 and took < 5 and done["reply"].get("outcome") == "accepted", (status, took, done))
-
-
-def set_aside(cluster, work):
-    """An entry that the registry never decides stops all writes, until the operator sets it aside."""
-    host = cluster.hosts[0]
-    relay = Weak(host, 5, poison=b'"poison"')
-    host.goo_port = relay.port
-    restart(host)
-    cluster.even(60)
-    answers = []
-    body = b'{"command":"open_account","key":"poison","holder":"C1"}'
-    thread = threading.Thread(target=lambda: answers.append(ask(host, "POST", "/v1/requests", "ISSUER", body, 60)))
-    thread.start()
-    n = host.says("does not answer")["entry"] + 1
-    said = host.op("aside", n)
-    thread.join()
-    time.sleep(1)
-    after = work.request("ISSUER", 0, "open_account", "after-poison", holder="C1")
-    again = ask(host, "POST", "/v1/requests", "ISSUER", body, 20)[0]
-    health, told = host.op("health", "--room", 0), [one for one in entries.read_archive(host.state / "archive", n - 1) if one.entry.n == n]
-    check(f"entry {n}, set aside: its client is told {answers[0][0] if answers else None}, the next request is {after['reply'].get('outcome')}; health: {health.stdout.strip()}",
-          answers and answers[0][0] in (500, 503) and again == 500 and told[0].outcome.status == 500 and after["status"] == 200 and health.returncode == 1 and "aside" in health.stdout, (said, answers, told, health))
-    host.goo_port = host.inner
-    restart(host)
-    same_as_replay(cluster, "with an entry set aside")
-
-
 def version(cluster, work):
     host = cluster.hosts[0]
     (host.folder / "version").write_text("next")
@@ -371,95 +266,6 @@ def version(cluster, work):
     run(*host.inside(REPLICA_LOG, "version", VERSION, *host.common()))
     host.release("replica")
     cluster.even(60)
-
-
-def copies(cluster, work):
-    """The copy of a night while requests are answered; its audit is that of the live registry."""
-    host, ended, waits, made = cluster.hosts[0], threading.Event(), [], []
-    thread = threading.Thread(target=lambda: [waits.append(timed(host, n)) for n in range(100000) if not ended.is_set()][:0])
-    thread.start()
-    for _ in range(3):
-        some(work, 10, f"copy{len(made)}")
-        made.append(host.op("copy"))
-        time.sleep(1)
-    ended.set()
-    thread.join()
-    statuses = collections.Counter(status for status, _ in waits)
-    check(f"three copies while {len(waits)} requests were answered {dict(statuses)}, the longest wait {max(wait for _, wait in waits):.2f} s: {made[-1].stdout.strip()}", all(one.returncode == 0 for one in made) and set(statuses) == {200}, made)
-    verified = host.op("verify", "--from", sorted((cluster.folder / "copies").glob("????-*"))[-2])
-    entry = cluster.even(30)
-    last = host.op("copy")
-    cluster.stop(("replica", "goo"))
-    live, copied = dump(host.disk / "goo/registry.db", cluster.folder / "rows-live"), dump(sorted((cluster.folder / "copies").glob("????-*"))[-1] / "registry.db", cluster.folder / "rows-copied")
-    check(f"the copy of entry {entry} has the same rows as the registry ({len(live[0].splitlines())} lines)", live == copied and last.returncode == 0, last)
-    for name in ("goo", "replica"):
-        host.release(name)
-    cluster.even(30)
-    check(f"the hash of each copy's day stands in the archive: {len(verified.stdout.splitlines())} lines", verified.returncode == 0 and verified.stdout.count("the hash of") >= 3, verified)
-
-
-def timed(host, n):
-    began = time.monotonic()
-    status = ask(host, "POST", "/v1/requests", "ISSUER", b'{"command":"open_account","key":"copying-%d-%d","holder":"C1"}' % (os.getpid(), n), 60)[0]
-    return status, time.monotonic() - began
-
-
-def tampered(cluster, work):
-    """What was changed in the archive by somebody without the key, or in a database by hand, is found and named."""
-    host = cluster.hosts[0]
-    some(work, 10, "tamper")
-    cluster.even(30)
-    cluster.stop(("replica", "goo"))
-    path = entries.months(host.state / "archive")[-1]
-    whole, copy = path.read_bytes(), sorted((cluster.folder / "copies").glob("????-*"))[0]
-    lines = whole.splitlines(keepends=True)
-    victim = next(i for i, line in enumerate(lines) if b'C1' in line and b'"status":200' in line)
-    n = entries.number_in(lines[victim])
-    path.write_bytes(whole.replace(lines[victim], lines[victim].replace(b'C1', b'C2', 1)))
-    key = host.op("verify")
-    rehashed(path, host.state / "archive", victim)
-    forged = host.op("verify")
-    path.write_bytes(whole.replace(lines[victim], lines[victim].replace(b'"status":200,"body":"{', b'"status":200,"body":"{ ', 1)))
-    outcome = host.op("verify")
-    check(f"entry {n} changed in the archive: {key.stderr.strip()}; with all hashes made anew: {forged.stderr.strip()}; its outcome changed: {outcome.stderr.strip()}",
-          all(done.returncode and f"entry {n}" in done.stderr for done in (key, forged, outcome)), (key, forged, outcome))
-    path.write_bytes(whole)
-    must("sqlite3", copy / "registry.db", "UPDATE meta SET next_account = next_account + 5")
-    parted = host.op("verify", "--from", copy)
-    must("sqlite3", copy / "registry.db", "UPDATE meta SET next_account = next_account - 5")
-    check(f"a copy whose rows were changed: {parted.stderr.strip()[:150]}", parted.returncode and "archived as" in parted.stderr, parted)
-    for name in ("goo", "replica"):
-        host.release(name)
-    cluster.even(60)
-
-
-def rehashed(path, folder, victim):
-    """An archive in which somebody changed a line and made all hashes and outcomes' chains after it anew, without the key."""
-    before, texts = None, []
-    for line in path.read_bytes().splitlines():
-        members = json.loads(line)
-        if before:
-            members["entry"]["prev"] = before
-        text = entries.compact({"entry": members["entry"], "mac": members["mac"]})
-        before = entries.hash_of(text)
-        texts.append(text[:-1] + b',"outcome":' + entries.compact(members["outcome"]) + b"}\n")
-    path.write_bytes(b"".join(texts))
-
-
-def forged(cluster, work):
-    """A line that somebody without the key has put into the log is not applied."""
-    host = cluster.hosts[0]
-    entry = cluster.even(30)
-    host.hold("replica")
-    log = sorted((host.state / "log").glob("*.jsonl"))[-1]
-    whole = log.read_bytes()
-    last = entries.read_entry(whole.splitlines()[-1])
-    line = entries.written(last._replace(n=entry + 1, prev=entries.hash_of(whole.splitlines()[-1]), body=b'{"command":"open_account","key":"forged","holder":"C1"}'), b"another key of someone")
-    log.write_bytes(whole + line + b"\n")
-    said = run(*host.inside(*host.command("replica")), timeout=20)
-    log.write_bytes(whole)
-    host.release("replica")
-    check(f"an entry without the key: {said.stderr.strip()[:150]}", said.returncode == 1 and "keyed hash" in said.stderr and cluster.even(30) == entry, said)
 
 
 def restored(cluster, work):
@@ -520,12 +326,6 @@ def old_place(cluster, work):
     (host.state / "place").write_bytes(place)
     host.release("goo"), host.release("replica")
     check("with the right ones put back, all is well", cluster.even(60) == entry)
-
-
-def twice(cluster, work):
-    host = cluster.hosts[0]
-    second = run(*host.inside(*[str(client.free_port()).join(("127.0.0.1:", "")) if word == f"127.0.0.1:{host.port}" else word for word in host.command("replica")]), timeout=20)
-    check(f"a second replica at one place does not start: {second.stderr.strip()[:120]}", second.returncode == 1 and "another program" in second.stderr, second)
 
 
 def shipped(cluster, work):
@@ -622,45 +422,4 @@ def follower(cluster, work):
             process.wait(20)
 
 
-def large(cluster, work):
-    rows = [f"big-{i},{gsrn(3)},{day(300)},{day(300)},{'12x' if i % 1000 else 1000000},0" for i in range(20000)]
-    body = ("key,device,first_day,last_day,gross_wh,aux_wh\n" + "\n".join(rows)).encode()[:1048576]
-    began = time.monotonic()
-    op = work.do("ISSUER", "/v1/declarations", body, 0, patience=120)
-    took, chance = time.monotonic() - began, random.Random(1)
-    junk = work.do("ISSUER", "/v1/requests", chance.randbytes(65536), 0, patience=120)["status"]
-    more = ask(cluster.hosts[0], "POST", "/v1/requests", "ISSUER", chance.randbytes(65537), 120)
-    check(f"a table of {len(body)} bytes: {op['status']} after {took:.2f} s; a request of as many bytes of no text as may be: {junk}; one more: {more[0]}", (op["status"], junk, *more[:2]) == (200, 400, 413, None), (op["status"], junk, more))
-    with client.connected(cluster.hosts[0].port) as s:
-        s.sendall(b"POST /v1/declarations HTTP/1.1\r\nHost: goo\r\nGOO-Caller: ISSUER\r\nContent-Length: 1048577\r\n\r\n")
-        check("one byte more is 413", s.recv(65536).startswith(b"HTTP/1.1 413"))
-    cluster.even(60)
-
-
-def slots(cluster, work):
-    """The file of the place: whatever becomes of one slot while it is written, the other one stands."""
-    path, chance, bad = str(cluster.folder / "place-trial"), random.Random(3), []
-    for _ in range(300):
-        if os.path.exists(path):
-            os.unlink(path)
-        position.begin(path, 5, "a" * 64)
-        place, synced, n = position.Place(path), 5, 5
-        for _ in range(chance.randint(0, 6)):
-            n += 1
-            place.record(n, "b" * 64, "c" * 64)
-            if chance.random() < 0.5:
-                place.sync()
-                synced = n
-        os.pwrite(place.file, bytes(chance.randrange(256) for _ in range(chance.randint(1, 511))), 4096 * place.slot)     # the slot in hand is lost
-        place.close()
-        now = position.Place(path)
-        bad += [(now.n, synced)] if now.n != synced else []
-        now.record(now.n + 1, "d" * 64, "-")
-        now.close()
-        last = position.Place(path)
-        bad += [last.n] if last.n != synced + 1 else []
-        last.close()
-    check("300 files of a place, the slot in hand lost at a power failure: the last synced place stands", not bad, bad[:3])
-
-
-PIECES = [entry_form, slots, roles, as_before, twice, no_registry, crashes, halves, torn_tables, table_cuts, weak, gone, slow_senders, full_disk, set_aside, version, copies, tampered, forged, restored, old_place, shipped, by_ssh, follower, large]
+PIECES = [crashes, halves, torn_tables, table_cuts, weak, gone, slow_senders, full_disk, version, restored, old_place, shipped, by_ssh, follower]
