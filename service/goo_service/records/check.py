@@ -184,9 +184,9 @@ def records_between(archive: Path, copy: Copy, last: int) -> Iterator[entries.Re
 # -------------------------------------------------------------------- the comparison
 
 def become_reader(book: Path, archive: Path) -> None:
-    """Root goes on as the user of the book, who reads the archive by its group."""
+    """Root goes on as the user of the book, who reads the archive by the group of the log."""
     if owner := owner_of(book):
-        os.setgroups([archive.stat().st_gid])
+        os.setgroups([archive.parent.stat().st_gid])
         os.setresgid(owner.group, owner.group, owner.group)
         os.setresuid(owner.user, owner.user, owner.user)
 
