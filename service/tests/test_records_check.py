@@ -1,7 +1,9 @@
 """The nightly check: the book of acts against a copy of the registry, which the program wrote."""
 import argparse
+import contextlib
 import json
 import os
+import shutil
 import subprocess
 from collections.abc import Callable
 from contextlib import closing
@@ -166,6 +168,30 @@ def test_a_copy_that_was_changed_is_told(night: Night) -> None:
             check.compare(night.words())
     finally:
         audit.write_bytes(before)
+
+
+@pytest.mark.skipif(os.geteuid() != 0, reason='root becomes the user of the book')
+def test_root_reads_the_copy_and_nothing_else(night: Night, tmp_path: Path) -> None:
+    """Each folder is open to its user alone; the log also to its group."""
+    log, book, user, group = tmp_path / 'log', tmp_path / 'book', 65_534, 65_533
+    shutil.copytree(night.folder / 'archive', log / 'archive')
+    shutil.copytree(night.folder / 'book', book, symlinks=True)
+    for path in (book, *book.iterdir()):
+        os.chown(path, user, user, follow_symlinks=False)
+    for path in (log, log / 'archive', *(log / 'archive').iterdir()):
+        os.chown(path, 1, group)
+        path.chmod(0o750 if path.is_dir() else 0o640)
+    book.chmod(0o700)
+    tmp_path.chmod(0o711)
+    night.copy.parent.chmod(0o700)
+    child = os.fork()
+    if not child:
+        with contextlib.suppress(BaseException):
+            result = check.compare(night.words(archive=str(log / 'archive'), into=str(book)))
+            is_user = (os.getresuid(), os.getgroups()) == ((user,) * 3, [group])
+            os._exit(0 if is_user and result.count and not result.differences else 1)
+        os._exit(2)
+    assert os.waitstatus_to_exitcode(os.waitpid(child, 0)[1]) == 0
 
 
 def refused(place: dict[str, object]) -> Callable[[Path], None]:

@@ -184,7 +184,7 @@ def records_between(archive: Path, copy: Copy, last: int) -> Iterator[entries.Re
 # -------------------------------------------------------------------- the comparison
 
 def become_reader(book: Path, archive: Path) -> None:
-    """Root goes on as the user of the book, who reads the archive by its group."""
+    """Root goes on as the user of the book, who reads the archive by the group of the log."""
     if owner := owner_of(book):
         os.setgroups([archive.parent.stat().st_gid])    # only its group sees into that folder
         os.setresgid(owner.group, owner.group, owner.group)
