@@ -134,11 +134,12 @@ class Alone:
             'etcd', '--name', 'h1', '--data-dir', str(self.folder / 'etcd'), '--logger', 'zap',
             '--log-level', 'error', '--listen-client-urls', own, '--advertise-client-urls', own,
             '--listen-peer-urls', peer, '--initial-advertise-peer-urls', peer,
-            '--initial-cluster', f'h1={peer}', *more], lambda _: client.is_open(port))
+            '--initial-cluster', f'h1={peer}', *more], lambda _: bool(client.is_open(port)))
 
     def found(self) -> None:
-        done = subprocess.run([*command('goo-replica-log', SERVICE), 'found', *self.common], capture_output=True,
-                              text=True, timeout=30)
+        program = command('goo-replica-log', SERVICE)
+        done = subprocess.run([*program, 'found', *self.common], capture_output=True, text=True,
+                              timeout=30, check=False)
         assert done.returncode == 0, done
 
     # ---------------------------------------------------------------- asking

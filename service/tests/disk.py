@@ -1,7 +1,7 @@
 """A disk that keeps what was synced, by what strace saw of the processes that write on it.
 
-`watch` attaches strace to processes. Each call that it saw changes a Disk, in the order in which the
-calls ended, and `after_failure` says which files are there if the power fails then. What a process
+`watch` attaches strace to processes. Each call that it saw changes a Disk, in the order in which
+the calls ended, and `after_failure` says which files are there if the power fails then. What a process
 means to be on the disk plays no part in it.
 """
 import contextlib
@@ -122,7 +122,7 @@ class File:
         self.durable, self.pending = self.now(), []
 
     def after_failure(self, chance: random.Random | None) -> bytes:
-        """Without a chance what was synced alone; else with the first changes, the last one torn."""
+        """Without a chance what was synced alone; else with the first changes, one of them torn."""
         count = chance.randint(0, len(self.pending)) if chance else 0
         kept = self.pending[:count]
         if chance and count < len(self.pending):

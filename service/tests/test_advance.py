@@ -1,4 +1,4 @@
-"""`goo-advance` moves the registry's date to the day of this host, by the host's own clock and zone."""
+"""`goo-advance` moves the registry's date to the day of this host, by its own clock and zone."""
 import datetime
 import http.server
 import json

@@ -1,4 +1,4 @@
-"""What service/goo_service/log/bounds.py lets into the log: each bound at its edge, and what reading costs."""
+"""What the log takes in (log/bounds.py): each bound at its edge, and what reading costs."""
 import csv
 import datetime
 import io

@@ -1,6 +1,6 @@
 """The one HTTP client: what it sends, and its ends in time and in bytes.
 
-Each server here is a few bytes sent by a thread over a bare socket: what no HTTP library would send.
+Each server here is a few bytes sent by a thread over a bare socket: no HTTP library sends such.
 """
 import contextlib
 import socket
@@ -17,7 +17,8 @@ from goo_service.common.client import Client
 from goo_service.common.client import NoAnswer
 
 Talk = Callable[[socket.socket], None]
-WHOLE = b'HTTP/1.1 200 OK\r\nContent-Length: 5\r\nGOO-Entry: 12\r\nContent-Type: text/plain\r\n\r\nhello'
+WHOLE = (b'HTTP/1.1 200 OK\r\nContent-Length: 5\r\nGOO-Entry: 12\r\n'
+         b'Content-Type: text/plain\r\n\r\nhello')
 
 
 @dataclass

@@ -9,9 +9,12 @@ import subprocess
 import sys
 import threading
 import time
+from collections.abc import Generator
 from collections.abc import Iterator
 from contextlib import closing
 from pathlib import Path
+from typing import Any
+from typing import cast
 
 from goo_service.copies import contents
 from goo_service.log import entries
@@ -82,7 +85,7 @@ class Log:
 
     def verify(self, begin: int = 1) -> list[str]:
         return list(verification.verify(GOO, self.state / 'archive', KEY, None, self.copies,
-                                          begin))
+                                        begin))
 
     def file(self) -> Path:
         return entries.months(self.state / 'archive')[-1]
@@ -134,8 +137,7 @@ def test_a_replay_gives_the_program_no_more_than_it_takes(log: Log, tmp_path: Pa
     sizes = [1 << 20] * 20 + [chance.choice((90, 900, 65536, 1 << 20)) for _ in range(60)]
     for number, size in enumerate(sizes):
         log.add(opened_holder(number, size))
-    now = replay.bring_up(str(program), tmp_path / 'none', log.state / 'archive',
-                                  log.place, KEY)
+    now = replay.bring_up(str(program), tmp_path / 'none', log.state / 'archive', log.place, KEY)
     given = list(map(int, told.read_text().split()))
     assert now.n == len(sizes)
     assert max(given) <= MOST and sum(given) == sum(len('ISSUER ') + 1 + len(
@@ -304,7 +306,7 @@ def replica_log(*words: object, check: bool = False) -> subprocess.CompletedProc
 
 
 def untouched(path: Path) -> tuple[int, ...]:
-    """Marks of a file that change once it is read, written or given away: it was read before it was written."""
+    """Marks of a file that change once it is read, written or given away."""
     os.utime(path, ns=(1_000_000_000, 2_000_000_000))
     return marks(path)
 
@@ -340,7 +342,7 @@ def test_root_reaches_no_further_than_the_owner_of_the_folder(
     os.lchown(link, NOBODY, NOBODY)
     before = {one: (one.read_bytes(), untouched(one)) for one in secret.iterdir()}
     for given in (['found'], ['version', 'next'], ['compress'], ['verify'], ['first-copy'],
-                    ['place', log.copies]):
+                  ['place', str(log.copies)]):
         done = replica_log(*given, '--state', state, *words)
         assert 'Traceback' not in done.stderr, (given, done)
         assert not (path.startswith('archive') and given == ['verify'] and not done.returncode)
@@ -365,7 +367,7 @@ def test_a_database_is_copied_as_its_owner(db: Path, tmp_path: Path) -> None:
     tmp_path.chmod(0o755)
     with pytest.raises(contents.Unfit, match='symbolic link'):
         contents.copy_database(home / 'registry.db', part)
-    assert 'a secret' not in {path.read_bytes() for path in part.iterdir()}
+    assert b'a secret' not in b''.join(path.read_bytes() for path in part.iterdir())
     (home / 'registry.db-wal').unlink()
     shutil.rmtree(part)
     part.mkdir()
@@ -385,9 +387,8 @@ def test_the_owner_ends_where_nobody_reads_and_tells_its_faults(tmp_path: Path) 
     def users() -> Iterator[bytes]:
         while True:
             yield f'{os.getresuid()} {os.getresgid()} {os.getgroups()}'.encode()
-    parts = owner.as_owner(home, users)
-    assert next(parts) == f'{(NOBODY,) * 3} {(NOBODY,) * 3} []'.encode()
-    parts.close()
+    with closing(cast(Generator[bytes, None, None], owner.as_owner(home, users))) as it:
+        assert next(it) == f'{(NOBODY,) * 3} {(NOBODY,) * 3} []'.encode()
 
     def fault() -> Iterator[bytes]:
         yield b'one'
@@ -456,7 +457,7 @@ def test_what_was_done_behind_the_log_fails_the_copy(log_house: House) -> None:
 
 
 def test_a_copy_is_the_live_file(log_house: House) -> None:
-    """Its rows are those of the registry that is stopped then, also where the log beside it is new."""
+    """Its rows are those of the registry that is stopped then, also where its log is new."""
     house = log_house
     house.make_country()
     house.kill('registry')                      # its newest requests are in registry.db-wal
@@ -522,7 +523,8 @@ def test_writes_wait_while_the_file_is_copied_and_go_on_however_it_ends(log_hous
     """Whoever holds ends by itself, is killed, or holds too long. Reads are answered meanwhile."""
     house = log_house
     house.make_country()
-    program = ('import sys, time; sys.path.insert(0, sys.argv[1]); from goo_service.log import hold as holding\n'
+    program = ('import sys, time; sys.path.insert(0, sys.argv[1])\n'
+               'from goo_service.log import hold as holding\n'
                'with holding.held(sys.argv[2]) as hold:\n'
                '    print(hold.n, flush=True)\n'
                '    time.sleep(float(sys.argv[3]))\n'
@@ -575,8 +577,8 @@ def put_before(house: House, copy: Path, n: int) -> None:
     part = house.folder / 'part'
     part.mkdir()
     contents.copy_database(copy / 'registry.db', part)
-    replay.bring_up(GOO, part / 'registry.db', house.state / 'archive',
-                            read_place(copy), house.key.read_bytes(), n - 1)
+    replay.bring_up(GOO, part / 'registry.db', house.state / 'archive', read_place(copy),
+                    house.key.read_bytes(), n - 1)
     for file in house.db.parent.glob('registry.db*'):
         file.unlink()
     (part / 'registry.db').rename(house.db)
@@ -587,7 +589,8 @@ def wrong_date(house: House, country: Country) -> tuple[int, str]:
     """The number and the body of a wrong date, which expires what is held. Of what came after it
     one was refused for it, and one was not."""
     held = {'first': f'{country.first:014}', 'last': f'{country.first + 9:014}'}
-    transfer = {'command': 'transfer', 'giver': country.sun, 'taker': country.volt, **held}
+    transfer: dict[str, Any] = {'command': 'transfer', 'giver': country.sun,
+                                'taker': country.volt, **held}
     house.enter('SUN', **transfer | {'key': 'before'})
     n = house.entry() + 1
     wrong = json.dumps({'command': 'advance', 'key': 'wrong', 'day': '2026-10-01'})
@@ -696,7 +699,7 @@ def first_copy(folder: Path, db: Path) -> None:
     """The first copy of a log, with the folders of a host below one folder."""
     program, = command('goo-replica-log', SERVICE)
     done = subprocess.run(
-        [program, 'first-copy', *words_below(folder, db)], capture_output=True, text=True,
+        [program, 'first-copy', *map(str, words_below(folder, db))], capture_output=True, text=True,
         check=False, env={**os.environ, 'GOO_BOOK': str(folder / 'book'),
                           'GOO_CONFIGURATION': str(folder / 'conf'), 'GOO_EXCHANGE': '/nowhere'})
     assert done.returncode == 0 and Path(done.stdout.strip()).is_dir(), done

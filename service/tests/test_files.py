@@ -10,7 +10,9 @@ from goo_service.common.owner import Owner
 
 def test_content_and_mode(tmp_path: Path) -> None:
     path = tmp_path / 'new/below/f'
-    for content, mode in (('one\nÄ', 0o600), (b'\xff\0', 0o640), ('', 0o644)):
+    contents: list[tuple[str | bytes, int]] = [
+        ('one\nÄ', 0o600), (b'\xff\0', 0o640), ('', 0o644)]
+    for content, mode in contents:
         files.write_whole(path, content, mode)
         assert path.read_bytes() == (content if isinstance(content, bytes) else content.encode())
         assert stat.S_IMODE(path.stat().st_mode) == mode

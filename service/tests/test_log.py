@@ -38,7 +38,7 @@ class Made:
     def open(self) -> int:
         """The last entry, once a replica has opened it."""
         if self.kind == 'archive':
-            return Archive(self.file.parent, KEY).last.entry.n
+            return last_in(self.file.parent).entry.n
         store = file_store.FileStore(self.file.parent, KEY)
         os.close(store.lock)
         os.close(store.file)
@@ -59,6 +59,18 @@ def lines_of(count: int) -> Iterator[tuple[entries.Entry, bytes]]:
         yield entry, line
 
 
+def last_in(folder: Path) -> entries.Record:
+    """The last record of an archive, as its replica opens it."""
+    last = Archive(folder, KEY).last
+    assert last
+    return last
+
+
+def close(archive: Archive) -> None:
+    assert archive.file is not None
+    os.close(archive.file)
+
+
 def archive_of(folder: Path, count: int) -> Path:
     archive, chain = Archive(folder), entries.NO_CHAIN
     for entry, line in lines_of(count):
@@ -66,7 +78,7 @@ def archive_of(folder: Path, count: int) -> Path:
         archive.add(line, entry, outcome)
         chain = outcome.chain
     archive.sync()
-    os.close(archive.file)
+    close(archive)
     return folder / '2026-03.jsonl'
 
 
@@ -155,12 +167,12 @@ def test_a_file_with_the_beginning_of_its_first_line_alone_is_emptied(tmp_path: 
     (tmp_path / '2026-04.jsonl').write_bytes(file.read_bytes()[:100])
     compress(tmp_path)
     archive = Archive(tmp_path, KEY)
-    assert archive.last.entry.n == 9
+    assert archive.last and archive.last.entry.n == 9
     assert (tmp_path / '2026-04.jsonl').read_bytes() == b''
     entry = entry_of(10, archive.last.hash, BODY % 10)      # of March, by a clock that was set back
     archive.add(entries.written(entry, KEY), entry,
                 entries.decided(entry.route, 200, ACCEPTED % 10, archive.last.outcome.chain))
-    os.close(archive.file)
+    close(archive)
     assert [one.entry.n for one in entries.read_archive(tmp_path, 0, KEY)] == list(range(1, 11))
 
 
@@ -194,7 +206,7 @@ def long_archive(folder: Path, rows: int) -> Path:
         archive.add(line, entry, outcome)
         chain = outcome.chain
     archive.sync()
-    os.close(archive.file)
+    close(archive)
     return folder / '2026-03.jsonl'
 
 
@@ -202,11 +214,12 @@ def test_lines_of_eleven_megabytes_are_read_from_the_end(tmp_path: Path) -> None
     file = long_archive(tmp_path, 524_000)
     whole = file.read_bytes()
     assert len(whole.splitlines()[-1]) > 10 << 20 > ends.TAIL
-    assert Archive(tmp_path, KEY).last.entry.n == 2
-    assert ends.last_plain(tmp_path).entry.n == 1
+    assert last_in(tmp_path).entry.n == 2
+    plain = ends.last_plain(tmp_path)
+    assert plain and plain.entry.n == 1
     assert [one.entry.n for one in entries.read_archive(tmp_path, 1, KEY)] == [2]
     file.write_bytes(whole[:-1000])
-    assert Archive(tmp_path, KEY).last.entry.n == 1
+    assert last_in(tmp_path).entry.n == 1
 
 
 @pytest.mark.parametrize('size', [1, 7, 100, 500, 5_000, 1 << 20])
@@ -255,16 +268,18 @@ def test_a_month_or_a_file_that_finds_no_room_leaves_the_one_before(
     log_of(tmp_path / 'l', 1)
     archive, store = Archive(tmp_path / 'a'), file_store.FileStore(tmp_path / 'l', KEY)
     (first, line), (second, line2) = lines_of(2)
-    archive.add(line2, second, archive.last.outcome)
+    assert archive.last
+    outcome = archive.last.outcome
+    archive.add(line2, second, outcome)
     with monkeypatch.context() as patch:
         patch.setattr(file_store, 'SIZE', 0)
         patch.setattr(os, 'open', refuse)
         for _ in range(2):
             with pytest.raises(OSError):
-                archive.add(line, first._replace(n=3, time='2026-04-01'), archive.last.outcome)
+                archive.add(line, first._replace(n=3, time='2026-04-01'), outcome)
             with pytest.raises(NoRoom):
                 store.put([line2])
-    archive.add(line, first._replace(n=3, time='2026-04-01'), archive.last.outcome)
+    archive.add(line, first._replace(n=3, time='2026-04-01'), outcome)
     assert [path.name[:7] for path in entries.months(tmp_path / 'a')] == ['2026-03', '2026-04']
     store.put([line2])
     assert store.files()[-1].read_bytes() == line + b'\n' + line2 + b'\n'
@@ -289,7 +304,7 @@ def test_a_second_one_is_locked_out_before_it_cuts(tmp_path: Path) -> None:
 def test_a_second_process_that_applies_is_locked_out_before_it_cuts(tmp_path: Path) -> None:
     """By the real program: two replicas over one folder, the first one in the midst of a line."""
     file = archive_of(tmp_path / 'archive', 9)
-    last = Archive(tmp_path / 'archive', KEY).last
+    last = last_in(tmp_path / 'archive')
     position.begin(tmp_path / 'place', 9, last.hash, last.outcome.chain)
     log_of(tmp_path / 'log', 9)
     (tmp_path / 'key').write_bytes(KEY)
@@ -298,8 +313,9 @@ def test_a_second_process_that_applies_is_locked_out_before_it_cuts(tmp_path: Pa
     file.write_bytes(torn)
     words = {'state': tmp_path, 'store': tmp_path / 'log', 'key': tmp_path / 'key',
              'listen': tmp_path / 'door', 'registry': tmp_path / 'none', 'version': 'trial'}
-    said = [word for name, value in words.items() for word in (f'--{name}', value)]
-    done = subprocess.run([*command('goo-replica', SERVICE), *said], capture_output=True, text=True, timeout=30)
+    options = [word for name, value in words.items() for word in (f'--{name}', str(value))]
+    done = subprocess.run([*command('goo-replica', SERVICE), *options], capture_output=True,
+                          text=True, timeout=30, check=False)
     assert done.returncode == 1 and 'another program' in done.stderr, done
     assert file.read_bytes() == torn
     held.close()

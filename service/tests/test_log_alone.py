@@ -14,9 +14,9 @@ from pathlib import Path
 import pytest
 
 from goo_service.log import entries
-from alone import SERVICE
 from alone import KEY
 from alone import Alone
+from house import SERVICE
 from house import Answer
 from service_commands import command
 

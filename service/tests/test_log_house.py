@@ -3,6 +3,7 @@ import datetime
 import json
 import subprocess
 from pathlib import Path
+from typing import Any
 
 from goo_service.log import entries
 import pytest
@@ -44,7 +45,8 @@ def test_the_date_moves_past_the_host_s_day_by_the_operator_alone(own_house: Hou
     own_house.make_country()
     before = own_house.entry()
     body = json.dumps({'command': 'advance', 'day': TOMORROW, 'key': 'a'})
-    for fields in ({}, {'GOO_Confirm': TOMORROW}):
+    for confirmed in ('', TOMORROW):
+        fields: dict[str, Any] = {'GOO_Confirm': confirmed} if confirmed else {}
         answer = own_house.ask('office', 'POST', '/v1/requests', body, **fields)
         assert answer.status == 403 and TOMORROW in error_of(answer)
     assert own_house.entry() == before

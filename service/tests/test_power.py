@@ -281,7 +281,7 @@ def try_moments(seen: Load, chance: random.Random) -> None:
 
 
 def try_power(service: Path | None, seed: int, slow: float = SLOW) -> None:
-    more = {'service': service} if service else {}
+    more: dict[str, Any] = {'service': service} if service else {}
     with House(parts=('registry', 'log'), **more) as house:
         seen = load(house, seed, slow)
         files = {path: path.read_bytes() for folder in seen.begun.folders
@@ -316,8 +316,9 @@ def service(tmp_path: Path) -> Path:
 def make_small(service: Path) -> None:
     """Files of the log end after some entries, and go soon after all of them are archived."""
     plant(service, 'goo_service/log/file_store.py', 'SIZE = 16 << 20', 'SIZE = 3 << 10')
-    plant(service, 'goo_service/log/replica.py', "await asyncio.sleep(60)\n            self.applier.send('sync')",
-          'await asyncio.sleep(0.1)\n            self.applier.send("sync")')
+    plant(service, 'goo_service/log/replica.py',
+          "await asyncio.sleep(60)\n            self.applier.send('sync')",
+          "await asyncio.sleep(0.1)\n            self.applier.send('sync')")
 
 
 def test_what_was_acknowledged_is_there() -> None:

@@ -24,7 +24,7 @@ def table(rows: int) -> str:
 def checked(folder: Path, rows: int) -> subprocess.CompletedProcess[str]:
     file = folder / 'table.csv'
     file.write_text(table(rows))
-    words = [*command('goo-check-declarations', SERVICE), file]
+    words = [*command('goo-check-declarations', SERVICE), str(file)]
     return subprocess.run(words, capture_output=True, text=True, check=False)
 
 

@@ -36,7 +36,7 @@ PHRASES = {
     200: 'OK', 400: 'Bad Request', 403: 'Forbidden', 404: 'Not Found', 405: 'Method Not Allowed',
     409: 'Conflict', 413: 'Content Too Large', 429: 'Too Many Requests',
     500: 'Internal Server Error', 501: 'Not Implemented', 503: 'Service Unavailable'}
-WHOLE = re.compile(r"([A-Z]+) ([!-~]+) HTTP/1\.([01])"
+WHOLE = re.compile(r'([A-Z]+) ([!-~]+) HTTP/1\.([01])'
                    r"((?:\r\n[!#$%&'*+.^_`|~0-9A-Za-z-]+:[\t -~\x80-\xff]*)*)")
 CALLER = re.compile('[!-~]{0,40}')
 OURS = ('goo-caller', 'goo-user', 'goo-address', 'goo-role', 'goo-confirm')
