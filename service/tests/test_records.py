@@ -297,7 +297,7 @@ LETTERS = [chr(code) for code in (0x20, 0x21, 0x22, 0x27, 0x2c, 0x3d, 0x5c, 0x7e
 
 
 def test_accepted_names_of_any_letters_are_kept(made: Made) -> None:
-    chance, names = random.Random(7), []
+    chance, names = random.Random(7), list[str]()
     while len(names) < 150:
         name = ''.join(chance.choices(LETTERS, k=chance.randint(1, 16)))
         if readings.is_name(name):

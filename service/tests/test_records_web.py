@@ -93,8 +93,8 @@ def test_limit_and_offset_go_through_each_list(made: Made) -> None:
 
 def file_of(made: Made, name: str, **parameters: object) -> list[dict[str, str]]:
     client = made.client()
-    answer = client.get(f'/records/v1/{name}', headers={'GOO-Caller': ISSUER},
-                        query_string={'format': 'csv', **parameters})
+    given: dict[str, object] = {'format': 'csv', **parameters}
+    answer = client.get(f'/records/v1/{name}', headers={'GOO-Caller': ISSUER}, query_string=given)
     assert answer.status_code == 200
     return list(csv.DictReader(io.StringIO(answer.get_data(as_text=True), newline='')))
 

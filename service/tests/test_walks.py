@@ -182,7 +182,7 @@ def test_who_is_not_signed_in_gets_nothing(house: House, user: str | None,
 def test_what_a_visitor_says_of_himself_counts_nothing(house: House, name: str) -> None:
     house.make_country()
     word = {'GOO-Caller': 'ISSUER', 'GOO-Role': 'full', 'GOO-User': 'office'}.get(name, '9.9.9.9')
-    said = {name.replace('-', '_'): word}
+    said: dict[str, Any] = {name.replace('-', '_'): word}
     assert house.ask('anna', 'GET', '/v1/audit', **said).status == 403
     assert house.ask('audit', 'POST', '/v1/requests', OPENS, **said).status == 403
     key = f'said-{name}'

@@ -16,7 +16,6 @@ from goo_service.common import rules
 from goo_service.common.rules import Again
 from goo_service.common.rules import EXPORTED
 from goo_service.common.rules import ISSUER
-from goo_service.common.rules import LOT
 from goo_service.common.rules import Lot
 from goo_service.common.rules import PLANT
 from goo_service.common.rules import compact
@@ -249,8 +248,8 @@ class Book(Writer):
         if known is None:
             known = self.lots[lot.key] = len(self.lots) + 1
             self.begins[known] = first
-            self.insert('lot', known, *(getattr(lot, member) for member in LOT),
-                        months_after(lot.last_day, 12), lot.expires_on, first, last)
+            trade_until = months_after(lot.last_day, 12)
+            self.insert('lot', known, *lot, trade_until, lot.expires_on, first, last)
         return known
 
     # ---------------------------------------------------------------- what commands leave besides

@@ -88,7 +88,8 @@ def registry_of_copy(database: sqlite3.Connection, audit: str) -> Registry:
             'last_day': last_day, 'carry': carry, 'declared': declared, 'less': less,
             'issued': issued, 'corrected': corrected}
     registry.declarations = list(rows['declaration'])
-    registry.left = {of[:2]: of[3] - of[4] for of in registry.declarations}
+    registry.left = {(gsrn, first_day): gross - aux
+                     for gsrn, first_day, _, gross, aux in registry.declarations}
     registry.corrections = list(rows['correction'])
     for gsrn, first_day, less, _ in registry.corrections:
         registry.left[gsrn, first_day] -= less
@@ -105,8 +106,8 @@ def registry_of_copy(database: sqlite3.Connection, audit: str) -> Registry:
 
 def restore_pieces(registry: WatchedRegistry, database: sqlite3.Connection) -> None:
     """Where each certificate is. What is held waits for its deadline."""
-    for first, last, *key, kind, account, act in database.execute(ROWS['piece']):
-        registry.restore(first, last, registry.lots[tuple(key)], Place(kind, account, act))
+    for first, last, origin, gsrn, first_day, *place in database.execute(ROWS['piece']):
+        registry.restore(first, last, registry.lots[origin, gsrn, first_day], Place(*place))
 
 
 # -------------------------------------------------------------------- the entries since

@@ -113,10 +113,9 @@ def facts_of_registry(registry: Registry) -> Iterator[Fact]:
     yield from (cancellation(number, *of) for number, of in sorted(registry.cancellations.items()))
     yield from (withdrawal(number, *of) for number, of in sorted(registry.withdrawals.items()))
     yield from sorted(notices_of_registry(registry), key=lambda fact: fact.key)
-    yield from (lot(getattr(of, member) for member in LOT)
-                for _, of in sorted(registry.lots.items()))
-    for first, last, of, place in registry.certificates.joined():
-        yield run(first, last, of.key, place.kind, place.account, place.act)
+    yield from (lot(of) for _, of in sorted(registry.lots.items()))
+    for first, last, its_lot, place in registry.certificates.joined():
+        yield run(first, last, its_lot.key, place.kind, place.account, place.act)
 
 
 def notices_of_registry(registry: Registry) -> Iterator[Fact]:
