@@ -28,6 +28,12 @@ test('each lot has what was produced, where and how', () => {
     Installation: '2 MWsince 2020-06-15no support', Issued: '2025-03-01registry 07'});
 });
 
+test('a cancellation of several lots has a row for each', () => {
+  const made = sheet([{...ONE, count: 15, lots: [LOT, {...LOT, first: '07000000000011', last: '07000000000015', count: 5, site: 'South'}]}], null);
+  assert.deepEqual(texts(made, 'td').filter((_, i) => i % 7 === 1), ['10', '5']);
+  assert.ok(made.textContent.includes('North field') && made.textContent.includes('South'));
+});
+
 test('several for one use are added up under one beneficiary', () => {
   const made = sheet([ONE, {...ONE, number: 4, count: 5, lots: [{...LOT, first: '07000000000011', last: '07000000000015', count: 5}]}], 'X');
   assert.equal(claimOf(made), '15 MWh of energy, used from 2025-02-01 to 2025-02-28 by Rathaus Beispielstadt');
