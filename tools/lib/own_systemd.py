@@ -26,6 +26,8 @@ MASKED = ('systemd-sysctl', 'systemd-modules-load', 'systemd-udevd', 'systemd-ud
 NODES = {'null': (1, 3), 'zero': (1, 5), 'full': (1, 7), 'random': (1, 8), 'urandom': (1, 9),
          'tty': (5, 0)}
 """The devices that every program may have."""
+ROOM = '1400m'
+"""Of what is written there. goo-setup doctor tells of less than a gigabyte that is free."""
 SERVICE = '''[Unit]
 DefaultDependencies=no
 After=systemd-journald.service
@@ -83,7 +85,7 @@ def become_systemd(folder: Path, words: list[str]) -> None:
     """Makes the root, goes into it, and becomes systemd."""
     subprocess.run(['mount', '--make-rprivate', '/'], check=True)
     layers = folder / 'layers'
-    mount('tmpfs', layers, 'size=900m')
+    mount('tmpfs', layers, f'size={ROOM}')
     root, upper, work = layers / 'root', layers / 'upper', layers / 'work'
     upper.mkdir()
     work.mkdir()
@@ -98,7 +100,7 @@ def become_systemd(folder: Path, words: list[str]) -> None:
     # an index of pages takes long
     (root / 'var/lib/man-db/auto-update').unlink(missing_ok=True)
     make_units(root, words)
-    for name in ('docs', 'tools'):
+    for name in ('docs', 'service', 'tools'):
         shutil.copytree(HOME / name, root / 'trial' / name)
     subprocess.run(['mount', '--bind', folder / 'out', root / 'mnt'], check=True)
     (root / 'before').mkdir()
@@ -137,7 +139,7 @@ def followed(result: Path, process: subprocess.Popen[bytes], seconds: float) -> 
 def output(folder: Path, words: list[str], seconds: float) -> str:
     """What a command prints under a systemd of its own; `folder`/out is its /mnt.
 
-    The command names files below /trial, where docs/ and tools/ are.
+    The command names files below /trial, where docs/, service/ and tools/ are.
     """
     groups = own_cgroups(folder.name)
     begin = ['unshare', '-mnpfCui', '--kill-child', sys.executable, '-B', __file__, str(folder),
