@@ -26,8 +26,8 @@ ENABLED = ASIDE / 'enabled'
 PROGRAMS = pathlib.Path('/usr/lib/goo')
 KEPT = ('goo.before', 'goo.refused')
 """Programs that goo-setup keeps beside the package's."""
-UNIT = re.compile(r'goo[\w@-]*\.(service|socket|timer)')
-DROP_IN = re.compile(r'goo[\w@-]*\.(service|socket|timer)\.d/(replica|alarm)\.conf')
+UNIT = re.compile(r'goo(-[\w@-]+)?\.(service|socket|timer)')
+DROP_IN = re.compile(r'goo(-[\w@-]+)?\.(service|socket|timer)\.d/(replica|alarm)\.conf')
 """Those that the package brings too.
 
 A drop-in of another name is the operator's, or this host's.
