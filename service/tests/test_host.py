@@ -224,6 +224,49 @@ def test_a_host_of_three_waits_for_its_renewal(registry: Stage) -> None:
     assert registry.lines('/run/stage/openings') == []
 
 
+RENEWED = '''
+import sys
+from goo_service.setup import cluster
+from goo_service.setup import common
+from goo_service.setup import upgrade
+upgrade.words_of_log = lambda: ['--name', 'h1']
+cluster.log_version = lambda: cluster.log_end().version
+try:
+    upgrade.renew()
+except common.Refused as fault:
+    sys.exit(str(fault))
+'''
+"""`goo-setup renew` on a host whose log is in files: over etcd it differs by where the version stands."""
+
+
+def test_a_renewal_takes_over(registry: Stage) -> None:
+    unpack(registry)
+    done = registry.python(RENEWED)
+    assert done.status == 0 and version(registry) == 'goo 1.1.0' and is_well(registry), done
+    assert not registry.run('ls', '/usr/lib/goo/goo.before').out
+
+
+def test_a_renewal_that_fails_goes_back_with_the_log(registry: Stage) -> None:
+    unpack(registry, more=': CRASHES;')
+    registry.put('/run/stage/restarts-goo.service', '5\n')
+    done = registry.python(RENEWED)
+    assert done.status == 1 and 'goo-setup renew tries the new one again' in done.err, done
+    assert version(registry) == 'goo 1.0.0' and is_well(registry), 'the log is at its version again'
+    assert set(RUNS) <= registry.active(), done
+    registry.shell('rm /run/stage/restarts-goo.service; sed -i "s/: CRASHES;//" /usr/lib/goo/goo.refused')
+    done = registry.python(RENEWED)
+    assert done.status == 0 and version(registry) == 'goo 1.1.0' and is_well(registry), done
+
+
+def test_a_host_does_not_go_back_behind_a_log_that_others_have_moved(registry: Stage) -> None:
+    unpack(registry, more=': CRASHES;')
+    registry.put('/run/stage/restarts-goo.service', '5\n')
+    registry.shell('goo-replica-log version "goo 1.1.0"')
+    done = registry.python(RENEWED)
+    assert done.status == 1 and version(registry) == 'goo 1.1.0', done
+    assert 'the version is goo 1.0.0' not in done.out, 'the others apply entries by the new one'
+
+
 # ------------------------------------------------------------------ the set-up
 
 @pytest.mark.parametrize(('words', 'lacks'), [('', "the host's name"),
