@@ -76,8 +76,9 @@ def renew() -> int:
     if REFUSED.exists():
         REFUSED.replace(PROGRAM)
     if cluster.log_version() == run(REPLICA, 'program').strip():
-        # the others apply entries by the new version already: this host cannot go back alone
-        begin_version(True, was_well())
+        # The others apply entries by the new version already: this host waits for it, and cannot
+        # go back alone.
+        begin_version(True, True)
         forget_before()
         begin_others()
     else:
