@@ -17,7 +17,7 @@ CLOSED = pathlib.Path('/etc/systemd/system/goo-door.socket.d/closed.conf')
 """There while the front door is closed, also after a start of the host."""
 CLOSES = ('# Written by restore: nginx is no member of this group. restore --open removes it.\n'
           '[Socket]\nSocketGroup=goo-agent\n')
-DOOR = ('goo-door.socket', 'goo-door.service')
+DOOR = 'goo-door.socket'
 REGISTRY_UNIT, REPLICA, RECORDS = 'goo.service', 'goo-replica.service', 'goo-records.service'
 TIMERS = ('goo-advance.timer', 'goo-backup.timer', 'goo-exchange.timer')
 RUNS = ('goo-advance.service', 'goo-backup.service', 'goo-exchange.service')
@@ -64,17 +64,17 @@ def is_one_of_three() -> bool:
 
 def close_door() -> None:
     """Only the agent reaches the registry, not nginx."""
-    systemctl('stop', *DOOR)
+    systemctl('stop', DOOR)
     CLOSED.parent.mkdir(parents=True, exist_ok=True)
     CLOSED.write_text(CLOSES, encoding='utf-8')
     systemctl('daemon-reload')
 
 
 def open_door() -> None:
-    systemctl('stop', *DOOR)
+    systemctl('stop', DOOR)
     CLOSED.unlink(missing_ok=True)
     systemctl('daemon-reload')
-    systemctl('start', DOOR[0])
+    systemctl('start', DOOR)
 
 
 def stop_all(ran: list[str]) -> None:
@@ -90,7 +90,7 @@ def stop_all(ran: list[str]) -> None:
 def start_as_before(ran: list[str], was_closed: bool) -> None:
     """Starts what ran. A door that an earlier run has closed stays closed."""
     if was_closed:
-        systemctl('start', DOOR[0])
+        systemctl('start', DOOR)
     else:
         open_door()
     if ran:

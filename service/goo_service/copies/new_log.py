@@ -110,6 +110,6 @@ def begin(placed: pathlib.Path | None) -> None:
     undo.set_later_copies_aside(n + 1)
     for words in ('found', 'first-copy'):
         show(run_log(words).strip())
-    host.systemctl('start', host.REGISTRY_UNIT, host.DOOR[0], host.REPLICA)
+    host.systemctl('start', host.REGISTRY_UNIT, host.DOOR, host.REPLICA)
     show(f'the registry runs with a new log, {host.wait_for_log()}')
     done_as_owner(host.STATE, lambda: (pathlib.Path(kept.decode()) / 'done').touch())

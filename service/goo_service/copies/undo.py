@@ -73,7 +73,7 @@ def begin_before(n: int) -> None:
     """
     show(run_log('undo', n).strip())
     set_later_copies_aside(n)
-    host.systemctl('start', host.REGISTRY_UNIT, host.DOOR[0], host.REPLICA)
+    host.systemctl('start', host.REGISTRY_UNIT, host.DOOR, host.REPLICA)
     host.wait_for_log()
     report = host.COPIES / f'undone-{n}-{contents.name_now()}.txt'
     text = run_log('again', n)
