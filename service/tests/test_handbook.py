@@ -89,8 +89,18 @@ def test_each_row_has_commands_and_is_played(row: str) -> None:
     ('goo: store fault\ngoo: /var/lib/goo/registry.db: permission', doctor.Row.DATABASE),
     ('no space left on /var/lib/goo: 1 MB\ngoo: store fault\nno space left on /var/lib/goo: 1 MB',
      doctor.Row.DISK),
-    ('goo: damaged\nlistening\n/var/lib/goo-replica/log/000.jsonl: entry 5', doctor.Row.LOG),
-    ('/var/lib/goo-replica/log/000.jsonl: entry 5\ngoo: damaged', doctor.Row.DATABASE),
-    ('/etc/goo/replica.key: no such file', doctor.Row.STOPPED), ('', doctor.Row.STOPPED)])
-def test_the_newest_reason_decides_the_row(lines: str, row: doctor.Row) -> None:
+    ('/var/lib/goo-replica/log/000.jsonl: entry 5', doctor.Row.LOG),
+    ('goo: damaged\nlistening 127.0.0.1:8470\nStopped goo.service', None),
+    ('/etc/goo/replica.key: no such file', None), ('', None)])
+def test_the_newest_reason_of_a_unit_decides_the_row(lines: str, row: doctor.Row | None) -> None:
     assert doctor.reason_in(lines) is row
+
+
+@pytest.mark.parametrize(('registry', 'log', 'row'), [
+    ('goo: damaged', 'listening /run/goo/door.sock', doctor.Row.DATABASE),
+    ('goo: damaged\nlistening 127.0.0.1:8470', '/var/lib/goo-replica/log/0.jsonl: 5', doctor.Row.LOG),
+    ('listening 127.0.0.1:8470', 'listening /run/goo/door.sock', doctor.Row.STOPPED)])
+def test_a_reason_of_before_a_start_is_none(monkeypatch: pytest.MonkeyPatch, registry: str, log: str,
+                                            row: doctor.Row) -> None:
+    monkeypatch.setattr(doctor, 'journal_of', {'goo': registry, 'goo-replica': log}.get)
+    assert doctor.reason() is row

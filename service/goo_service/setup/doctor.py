@@ -86,6 +86,8 @@ REASONS = {
     re.compile(r'/var/lib/goo-replica/(log|archive)\b'): Row.LOG,
 }
 """By a line of the journal: why a registry or its log does not run."""
+STARTED = 'listening '
+"""How the line begins with which a registry, or its log, says that it runs."""
 
 
 def findings() -> Iterator[Finding]:
@@ -103,26 +105,33 @@ def findings() -> Iterator[Finding]:
 
 # -------------------------------------------------------------------- the registry
 
-def reason_in(journal: str) -> Row:
-    """The row by the newest line that says why a registry or its log has ended."""
+def reason_in(journal: str) -> Row | None:
+    """The row by the newest line of a unit that says why it has ended, since it ran last."""
     for line in reversed(journal.splitlines()):
+        if line.startswith(STARTED):
+            return None
         for form, row in REASONS.items():
             if form.search(line):
                 return row
-    return Row.STOPPED
+    return None
 
 
-def journal() -> str:
-    """What the registry and its log have written lately, in the order of time."""
-    return output_of('journalctl', f'--since={SINCE}', '-u', 'goo', '-u', 'goo-replica',
-                     '-o', 'cat', '--no-pager')
+def journal_of(unit: str) -> str:
+    """What a unit has written lately."""
+    return output_of('journalctl', f'--since={SINCE}', '-u', unit, '-o', 'cat', '--no-pager')
+
+
+def reason() -> Row:
+    """Why no requests are taken: the registry's reason before that of its log."""
+    found = (reason_in(journal_of(unit)) for unit in ('goo', 'goo-replica'))
+    return next((row for row in found if row), Row.STOPPED)
 
 
 def of_registry() -> Iterator[Finding]:
     stands = book()
     now = health()          # after the book: the log may have gone on since, and is never behind it
     if now.why:
-        row = Row.HOST if 'entries behind' in now.why else reason_in(journal())
+        row = Row.HOST if 'entries behind' in now.why else reason()
         yield Finding(f'the registry takes no requests: {now.why}', row,
                       'journalctl -u goo -u goo-replica -n 50')
     if not stands:
