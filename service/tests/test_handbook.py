@@ -1,4 +1,4 @@
-"""The handbooks: their tables of contents, the places that point into them, and the doctor's rows."""
+"""The handbooks: their tables of contents, what points into them, and the doctor's rows."""
 import ast
 import inspect
 import re
@@ -98,9 +98,10 @@ def test_the_newest_reason_of_a_unit_decides_the_row(lines: str, row: doctor.Row
 
 @pytest.mark.parametrize(('registry', 'log', 'row'), [
     ('goo: damaged', 'listening /run/goo/door.sock', doctor.Row.DATABASE),
-    ('goo: damaged\nlistening 127.0.0.1:8470', '/var/lib/goo-replica/log/0.jsonl: 5', doctor.Row.LOG),
+    ('goo: damaged\nlistening 127.0.0.1:8470', '/var/lib/goo-replica/log/0.jsonl: 5',
+     doctor.Row.LOG),
     ('listening 127.0.0.1:8470', 'listening /run/goo/door.sock', doctor.Row.STOPPED)])
-def test_a_reason_of_before_a_start_is_none(monkeypatch: pytest.MonkeyPatch, registry: str, log: str,
-                                            row: doctor.Row) -> None:
+def test_a_reason_of_before_a_start_is_none(
+        monkeypatch: pytest.MonkeyPatch, registry: str, log: str, row: doctor.Row) -> None:
     monkeypatch.setattr(doctor, 'journal_of', {'goo': registry, 'goo-replica': log}.get)
     assert doctor.reason() is row

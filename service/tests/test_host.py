@@ -11,6 +11,7 @@ from importlib import import_module
 from pathlib import Path
 from types import ModuleType
 from types import SimpleNamespace
+from typing import Any
 
 import pytest
 
@@ -30,13 +31,14 @@ TOP = Path(__file__).resolve().parents[2]
 SERVICE = TOP / 'service'
 
 
-def closed_early(*words: object, **more: object) -> subprocess.CompletedProcess[str]:
+def closed_early(*words: object, **more: Any) -> subprocess.CompletedProcess[str]:
     """A program whose output nobody reads."""
     process = subprocess.Popen([str(word) for word in words], stdout=subprocess.PIPE,
                                stderr=subprocess.PIPE, text=True, **more)
+    assert process.stdout and process.stderr
     process.stdout.close()
     said = process.stderr.read()
-    return subprocess.CompletedProcess(words, process.wait(30), '', said)
+    return subprocess.CompletedProcess(process.args, process.wait(30), '', said)
 
 
 def test_the_state_of_the_exchange_may_be_read_in_part(tmp_path: Path) -> None:
@@ -187,7 +189,7 @@ def test_a_set_up_that_is_ended_half_way_leaves_what_ran(registry: Stage, number
     begun.wait(60)
     assert begun.returncode != 0
     if number != signal.SIGKILL:
-        assert set(RUNS) <= registry.active() and is_well(registry), begun.stderr.read()
+        assert set(RUNS) <= registry.active() and is_well(registry), (registry.folder / 'said').read_text()
     done = configure(registry)
     registry.shell('rm /run/stage/goes-on')
     assert done.status == 0 and set(RUNS) <= registry.active() and is_well(registry), done

@@ -1,4 +1,4 @@
-"""What goo-setup plans, as values: what was installed by hand, three hosts, words, the front door."""
+"""What goo-setup and restore plan, as values: installed by hand, three hosts, words, copies."""
 import argparse
 import os
 from collections.abc import Iterator
@@ -89,9 +89,11 @@ def test_nothing_by_hand_stops_nothing(tmp_path: Path) -> None:
 
 @pytest.mark.parametrize(('old', 'new', 'is_refused'), [
     ('ssl_verify_client on;', '', True), ('  ssl_verify_client optional;', '', True),
-    ('ssl_verify_client on;', 'ssl_verify_client on;', False), ('# ssl_verify_client on;', '', False)])
+    ('ssl_verify_client on;', 'ssl_verify_client on;', False),
+    ('# ssl_verify_client on;', '', False)])
 def test_a_door_by_certificates_is_not_opened_by_passwords(
-        tmp_path: Path, monkeypatch: pytest.MonkeyPatch, old: str, new: str, is_refused: bool) -> None:
+        tmp_path: Path, monkeypatch: pytest.MonkeyPatch, old: str, new: str,
+        is_refused: bool) -> None:
     front, ours = tmp_path / 'sites-enabled/goo.conf', tmp_path / 'sites-available/goo.conf'
     for path, text in ((front, old), (ours, new)):
         path.parent.mkdir()
@@ -130,7 +132,8 @@ def test_each_host_has_its_own_name_and_address(goods: Path, at: int) -> None:
     own = [line for line in conf.splitlines() if line.startswith(('listen-', 'advertise-'))]
     assert own and all(ADDRESSES[at] in line or '127.0.0.1' in line for line in own), own
     cluster = next(line for line in conf.splitlines() if line.startswith('initial-cluster:'))
-    assert all(f'h{number}=https://{one}:2380' in cluster for number, one in enumerate(ADDRESSES, 1))
+    members = (f'h{number}=https://{one}:2380' for number, one in enumerate(ADDRESSES, 1))
+    assert all(member in cluster for member in members)
     assert not any('192.0.2.' in line for file in files.values()
                    for line in file.text.splitlines() if not line.startswith('#'))
 
@@ -157,7 +160,8 @@ def test_a_host_asks_its_own_etcd_first() -> None:
             in words.text) and '--name h2 --code 7 ' in words.text
 
 
-@pytest.mark.parametrize('text', ['', '10.0.0.1', '10.0.0.1,10.0.0.2', '10.0.0.1,10.0.0.1,10.0.0.2',
+@pytest.mark.parametrize('text', ['', '10.0.0.1', '10.0.0.1,10.0.0.2',
+                                  '10.0.0.1,10.0.0.1,10.0.0.2',
                                   '10.0.0.1,10.0.0.2,127.0.0.1', '10.0.0.1,10.0.0.2,a',
                                   '10.0.0.1,10.0.0.2,10.0.0.3,10.0.0.4',
                                   '10.0.0.1,10.0.0.2,10.0.0.3,10.0.0.1'])
@@ -175,7 +179,8 @@ def test_a_file_keeps_its_mode_below_another_root(tmp_path: Path) -> None:
 
 @pytest.mark.parametrize(('words', 'why'), [
     (['--certificate', 'a'], 'belong together'), (['--date', '1.3.2026'], 'a day is written'),
-    (['--date', '20260301'], 'a day is written'), (['--balancer', '10.0.0.9'], 'belongs to --hosts'),
+    (['--date', '20260301'], 'a day is written'),
+    (['--balancer', '10.0.0.9'], 'belongs to --hosts'),
     (['--hosts', '10.0.0.1,10.0.0.2'], 'three different addresses')])
 def test_words_that_cannot_be_begun_are_refused_before_anything(words: list[str], why: str) -> None:
     with pytest.raises(Refused, match=why):
@@ -242,7 +247,8 @@ def copies(tmp_path: Path, monkeypatch: pytest.MonkeyPatch) -> Iterator[Path]:
 
 
 @pytest.mark.parametrize(('before', 'day'), [(None, 3), (31, 3), (30, 2), (11, 1)])
-def test_the_last_copy_is_the_newest_that_serves(copies: Path, before: int | None, day: int) -> None:
+def test_the_last_copy_is_the_newest_that_serves(
+        copies: Path, before: int | None, day: int) -> None:
     assert going_back.folder_of('last', before).name == f'2026-03-0{day}T020000Z'
 
 
@@ -268,7 +274,8 @@ def test_a_changed_copy_is_refused(copies: Path) -> None:
         restore.Plan(copy).verify()
 
 
-@pytest.mark.parametrize('plan', [restore.Plan(Path(), before=25), restore.Plan(Path(), new_log=True)])
+@pytest.mark.parametrize('plan', [restore.Plan(Path(), before=25),
+                                  restore.Plan(Path(), new_log=True)])
 def test_over_etcd_no_entry_is_undone_and_no_log_begun(copies: Path, plan: restore.Plan) -> None:
     host.WORDS.write_text('REPLICA_WORDS=--name h1 --etcd https://192.0.2.1:2379\n')
     over = restore.Plan(going_back.folder_of('last', 25), plan.before, plan.new_log)
