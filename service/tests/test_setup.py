@@ -107,6 +107,22 @@ def test_a_door_by_certificates_is_not_opened_by_passwords(
         by_hand.verify(by_hand.Found((front,)))
 
 
+def test_what_is_refused_is_refused_before_aside(tmp_path: Path,
+                                                 monkeypatch: pytest.MonkeyPatch) -> None:
+    found = by_hand.Found((tmp_path / 'goo.service',))
+
+    def refuse(_: by_hand.Found) -> None:
+        raise Refused('by certificates')
+
+    monkeypatch.setattr(by_hand, 'found_below', lambda *_: found)
+    monkeypatch.setattr(by_hand, 'verify', refuse)
+    monkeypatch.setattr(by_hand, 'ASIDE', tmp_path / 'aside')
+    monkeypatch.setattr(by_hand, 'run', lambda *_: pytest.fail('a command is run'))
+    with pytest.raises(Refused, match='by certificates'):
+        by_hand.set_aside()
+    assert not (tmp_path / 'aside').exists()
+
+
 # ------------------------------------------------------------------ three hosts
 
 @pytest.fixture
