@@ -14,6 +14,7 @@ import subprocess
 import tempfile
 from dataclasses import dataclass
 from pathlib import Path
+from typing import Any
 
 TOP = Path(__file__).resolve().parents[2]
 USERS = ('goo', 'goo-agent', 'goo-door', 'goo-replica', 'goo-etcd', 'goo-records', 'www-data')
@@ -144,13 +145,14 @@ class Stage:
 
     def __init__(self, top: Path = TOP) -> None:
         self.top, self.folder = top, Path(tempfile.mkdtemp(prefix='goo-stage-'))
-        self.process: subprocess.Popen[str] | None = None
+        self.process: subprocess.Popen[str]
 
     def __enter__(self) -> 'Stage':
         self.folder.chmod(0o755)
         words = ['setpriv', '--pdeathsig=KILL', 'unshare', '--mount', '--net', '--pid', '--fork',
                  '--kill-child', '--mount-proc', 'bash', '-ec', SETUP, 'bash', str(self.folder), str(self.top)]
         self.process = subprocess.Popen(words, stdin=subprocess.DEVNULL, stdout=subprocess.PIPE, text=True)
+        assert self.process.stdout
         if self.process.stdout.readline() != 'ready\n':
             raise OSError('no host of its own can be made')
         children = Path(f'/proc/{self.process.pid}/task/{self.process.pid}/children').read_text().split()
@@ -173,7 +175,7 @@ class Stage:
         self.run('sh', '-ec', 'mkdir -p "${1%/*}"; rm -f "$1"; echo "$2" | base64 -d > "$1"; chmod "$3" "$1"',
                  'sh', path, packed, f'{mode:o}')
 
-    def run(self, *words: object, seconds: float = 60, **more: object) -> Done:
+    def run(self, *words: object, seconds: float = 60, **more: Any) -> Done:
         """A command as root."""
         done = subprocess.run([*self.inside, *map(str, words)], capture_output=True, timeout=seconds,
                               env={'PATH': '/usr/local/sbin:/usr/local/bin:/usr/sbin:/usr/bin:/sbin:/bin',
@@ -186,13 +188,13 @@ class Stage:
         return subprocess.Popen([*self.inside, *map(str, words)], stdin=subprocess.DEVNULL,
                                 stdout=said, stderr=said, cwd='/')
 
-    def shell(self, text: str, **more: object) -> Done:
+    def shell(self, text: str, **more: Any) -> Done:
         """Lines that all have to end well."""
         done = self.run('bash', '-euo', 'pipefail', '-c', text, **more)
         assert done.status == 0, f'{text}\n{done}'
         return done
 
-    def python(self, text: str, *words: object, **more: object) -> Done:
+    def python(self, text: str, *words: object, **more: Any) -> Done:
         """Some Python as root, with the package's modules."""
         head = 'import sys; sys.dont_write_bytecode = True\n'
         return self.run('/usr/bin/python3', '-c', head + text, *words, **more)

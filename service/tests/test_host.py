@@ -11,11 +11,15 @@ from importlib import import_module
 from pathlib import Path
 from types import ModuleType
 from types import SimpleNamespace
+from typing import Any
 
 import pytest
 
+from goo_service.common.client import Answer
+from goo_service.setup import certificates
 from goo_service.setup import common
-from goo_service.setup import report
+from goo_service.setup import doctor
+from goo_service.setup.health import Health
 from host_stage import FOLDERS
 from host_stage import USERS
 from host_stage import Canary
@@ -27,13 +31,14 @@ TOP = Path(__file__).resolve().parents[2]
 SERVICE = TOP / 'service'
 
 
-def closed_early(*words: object, **more: object) -> subprocess.CompletedProcess[str]:
+def closed_early(*words: object, **more: Any) -> subprocess.CompletedProcess[str]:
     """A program whose output nobody reads."""
     process = subprocess.Popen([str(word) for word in words], stdout=subprocess.PIPE,
                                stderr=subprocess.PIPE, text=True, **more)
+    assert process.stdout and process.stderr
     process.stdout.close()
     said = process.stderr.read()
-    return subprocess.CompletedProcess(words, process.wait(30), '', said)
+    return subprocess.CompletedProcess(process.args, process.wait(30), '', said)
 
 
 def test_the_state_of_the_exchange_may_be_read_in_part(tmp_path: Path) -> None:
@@ -184,7 +189,7 @@ def test_a_set_up_that_is_ended_half_way_leaves_what_ran(registry: Stage, number
     begun.wait(60)
     assert begun.returncode != 0
     if number != signal.SIGKILL:
-        assert set(RUNS) <= registry.active() and is_well(registry), begun.stderr.read()
+        assert set(RUNS) <= registry.active() and is_well(registry), (registry.folder / 'said').read_text()
     done = configure(registry)
     registry.shell('rm /run/stage/goes-on')
     assert done.status == 0 and set(RUNS) <= registry.active() and is_well(registry), done
@@ -221,6 +226,49 @@ def test_a_host_of_three_waits_for_its_renewal(registry: Stage) -> None:
     assert registry.lines('/run/stage/openings') == []
 
 
+RENEWED = '''
+import sys
+from goo_service.setup import cluster
+from goo_service.setup import common
+from goo_service.setup import upgrade
+upgrade.words_of_log = lambda: ['--name', 'h1']
+cluster.log_version = lambda: cluster.log_end().version
+try:
+    upgrade.renew()
+except common.Refused as fault:
+    sys.exit(str(fault))
+'''
+"""`goo-setup renew` on a host whose log is in files: over etcd it differs by where the version stands."""
+
+
+def test_a_renewal_takes_over(registry: Stage) -> None:
+    unpack(registry)
+    done = registry.python(RENEWED)
+    assert done.status == 0 and version(registry) == 'goo 1.1.0' and is_well(registry), done
+    assert not registry.run('ls', '/usr/lib/goo/goo.before').out
+
+
+def test_a_renewal_that_fails_goes_back_with_the_log(registry: Stage) -> None:
+    unpack(registry, more=': CRASHES;')
+    registry.put('/run/stage/restarts-goo.service', '5\n')
+    done = registry.python(RENEWED)
+    assert done.status == 1 and 'goo-setup renew tries the new one again' in done.err, done
+    assert version(registry) == 'goo 1.0.0' and is_well(registry), 'the log is at its version again'
+    assert set(RUNS) <= registry.active(), done
+    registry.shell('rm /run/stage/restarts-goo.service; sed -i "s/: CRASHES;//" /usr/lib/goo/goo.refused')
+    done = registry.python(RENEWED)
+    assert done.status == 0 and version(registry) == 'goo 1.1.0' and is_well(registry), done
+
+
+def test_a_host_does_not_go_back_behind_a_log_that_others_have_moved(registry: Stage) -> None:
+    unpack(registry, more=': CRASHES;')
+    registry.put('/run/stage/restarts-goo.service', '5\n')
+    registry.shell('goo-replica-log version "goo 1.1.0"')
+    done = registry.python(RENEWED)
+    assert done.status == 1 and version(registry) == 'goo 1.1.0', done
+    assert 'the version is goo 1.0.0' not in done.out, 'the others apply entries by the new one'
+
+
 # ------------------------------------------------------------------ the set-up
 
 @pytest.mark.parametrize(('words', 'lacks'), [('', "the host's name"),
@@ -250,12 +298,12 @@ from goo_service.setup import common
 from goo_service.setup import cluster
 root = pathlib.Path('/run/stage/packed')
 root.mkdir()
-for name, (folder, user) in cluster.THEIR_FOLDERS.items():
-    cluster.pack_folder(folder, user, root / name)
+for name, folder in cluster.THEIR_FOLDERS.items():
+    cluster.pack_folder(folder, root / name)
 common.run('tar', '--create', '--file', root / 'all', '--directory', root, *cluster.THEIR_FOLDERS)
 common.run('sh', '-ec', 'rm -rf /var/lib/goo/* /var/lib/goo-replica/* /var/lib/goo-records/*')
-for name, (folder, user) in cluster.THEIR_FOLDERS.items():
-    cluster.unpack_folder(root / 'all', name, folder, user)
+for name, folder in cluster.THEIR_FOLDERS.items():
+    cluster.unpack_folder(root / 'all', name, folder)
 '''
 """Packs the folders of the services on a first host, and unpacks them as on one that joins."""
 
@@ -282,8 +330,9 @@ PLANTS = {
 AROUND_THE_LOG = (
     'goo-replica-log verify', 'goo-replica-log verify --from {COPY}', 'goo-replica-log compress', 'goo-replica-log found',
     'goo-replica-log version x', 'goo-replica-log first-copy', 'goo-replica-log place {COPY}', 'goo-replica-log copy',
-    'env GOO_RECOUNT= goo-copies backup', 'goo-setup upgraded', 'goo-copies restore {COPY} --without-list --although-broken',
-    'goo-copies restore --open --unsettled')
+    'goo-setup upgraded', 'goo-copies restore {COPY} --without-list --although-broken',
+    'goo-copies restore {COPY} --without-list --although-broken --new-log',
+    'goo-copies restore --open --unsettled', 'goo-setup --self-signed')
 """What root carries out by the programs of the log and of the copies; the later ones change what runs."""
 ROOTS_FOLDERS = ('/run', '/run/goo', '/run/goo-front', '/var/lib', '/var/log/goo', '/var/backups/goo',
                  '/etc/goo', '/etc/goo/peers', '/etc/goo/tls', '/usr/lib/goo', '/run/goo-units')
@@ -301,21 +350,21 @@ shutil.rmtree('/run/stage/root', ignore_errors=True)
 root = pathlib.Path('/run/stage/root'); root.mkdir()
 def attempt(work, *words):
     with contextlib.suppress(common.Refused, subprocess.TimeoutExpired): work(*words)
-attempt(cluster.numbers)
+attempt(cluster.log_end)
 attempt(common.code_of_registry)
 common.holds_registry()
-for name, (folder, user) in cluster.THEIR_FOLDERS.items():
-    attempt(cluster.pack_folder, folder, user, root / name)
+for name, folder in cluster.THEIR_FOLDERS.items():
+    attempt(cluster.pack_folder, folder, root / name)
     (root / 'x').write_text('x')
     common.run('tar', '--create', '--file', root / f'{name}.all', '--directory', root, name, 'x')
-    attempt(cluster.unpack_folder, root / f'{name}.all', name, folder, user)
+    attempt(cluster.unpack_folder, root / f'{name}.all', name, folder)
 END''',
     'the copy for the book': rf'''python3 - <<'END'
 import pathlib
 from goo_service.common import owner
 from goo_service.copies import book
-from goo_service.setup import command
-command.place_folders()
+from goo_service.setup import registry
+registry.place_folders()
 etc = pathlib.Path('/etc/goo')
 (etc / 'records.conf').unlink(missing_ok=True)
 try:
@@ -384,7 +433,8 @@ def test_root_follows_nothing_around_the_log(planted: Stage, kind: str) -> None:
     for words in AROUND_THE_LOG:
         text = f'PATH=/usr/lib/goo:$PATH; exec timeout -k 1 20 {words.replace("{COPY}", COPY)}'
         done = planted.run('sh', '-c', text)
-        assert done.status != 124 and 'Traceback' not in done.err, f'{words}: {done}'
+        waits = '--new-log' in words            # for a log that nothing on this host takes up
+        assert (done.status != 124 or waits) and 'Traceback' not in done.err, f'{words}: {done}'
         assert canary.seen() == [], f'{words}: {done}'
     canary.close()
 
@@ -428,32 +478,32 @@ def etc(tmp_path: Path, monkeypatch: pytest.MonkeyPatch) -> Path:
     (folder / 'host.conf').write_text('server_name a.example;\n')
     (folder / 'exchange.conf').write_text(f'[peer 9]\nauthority = {folder}/peers/09.pem\n')
     (folder / 'records.conf').write_text('GOO_RECORDS_BEGIN=--begun 7 2025-03-01 1\n')
-    monkeypatch.setattr(report, 'ETC', folder)
-    monkeypatch.setattr(report, 'words_of_log', lambda: ['--etcd', 'https://192.0.2.1:2379'])
+    monkeypatch.setattr(doctor, 'ETC', folder)
+    monkeypatch.setattr(certificates, 'words_of_log', lambda: ['--etcd', 'https://192.0.2.1:2379'])
     return folder
 
 
 @pytest.mark.parametrize('name', ['tls/cert', 'etcd/ca', 'etcd/member', 'etcd/replica', 'peers/09'])
 @pytest.mark.parametrize(('days', 'told'), [(32, ''), (30, 'ends in 29 days'), (1, 'ends in 0 days')])
 def test_a_certificate_is_told_thirty_days_before_its_end(etc: Path, name: str, days: int, told: str) -> None:
-    assert list(report.certificate_ailments()) == []
+    assert list(doctor.of_certificates()) == []
     certificate(etc / f'{name}.pem', days)
-    found = [what for what, _ in report.certificate_ailments()]
+    found = [finding.what for finding in doctor.of_certificates()]
     assert len(found) == bool(told) and all(f'{name}.pem' in what and told in what for what in found), found
 
 
 def test_a_certificate_that_has_ended_is_told(etc: Path, monkeypatch: pytest.MonkeyPatch) -> None:
-    later = report.utc_now() + datetime.timedelta(101)
-    monkeypatch.setattr(report, 'utc_now', lambda: later)
-    assert sum('has ended' in what for what, _ in report.certificate_ailments()) == 5
+    later = certificates.utc_now() + datetime.timedelta(101)
+    monkeypatch.setattr(certificates, 'utc_now', lambda: later)
+    assert sum('has ended' in finding.what for finding in doctor.of_certificates()) == 5
 
 
 def test_each_certificate_of_a_chain_is_looked_at(etc: Path) -> None:
     chain = etc / 'tls/cert.pem'
     chain.write_text(signed(100) + signed(10))
-    assert len(list(report.certificate_ailments())) == 1
+    assert len(list(doctor.of_certificates())) == 1
     chain.write_text('no certificate')
-    assert ['cannot be read' in what for what, _ in report.certificate_ailments()] == [True]
+    assert ['cannot be read' in finding.what for finding in doctor.of_certificates()] == [True]
 
 
 @pytest.fixture
@@ -461,30 +511,31 @@ def book(etc: Path, monkeypatch: pytest.MonkeyPatch) -> SimpleNamespace:
     """A registry of three accounts, and a book that has the first `accounts` of them."""
     state = SimpleNamespace(accounts=3, code=7)
 
-    def ask(path: str, route: str) -> tuple[int, str]:
+    def fetch(path: str, route: str) -> Answer:
         number = int(route.partition('account=')[2].partition('&')[0])
         items = [{'account': number}] if number <= state.accounts else []
-        return 200, json.dumps({'stands': {}, 'items': items})
+        return Answer(200, {}, json.dumps({'stands': {}, 'items': items}).encode())
 
-    monkeypatch.setattr(report, 'ask', ask)
-    monkeypatch.setattr(report, 'meta_of', lambda *_: 4)
-    monkeypatch.setattr(report, 'code_of_registry', lambda: state.code)
+    monkeypatch.setattr(doctor, 'fetch', fetch)
+    monkeypatch.setattr(doctor, 'meta_of', lambda *_: 4)
+    monkeypatch.setattr(doctor, 'code_of_registry', lambda: state.code)
     return state
 
 
 def test_a_book_that_fits_its_log_is_well(book: SimpleNamespace) -> None:
-    assert list(report.book_ailments(40, 40)) == []
-    assert list(report.book_ailments(40, 20)) == [], 'it comes after the log'
+    assert list(doctor.of_book(40, 40)) == []
+    assert list(doctor.of_book(40, 20)) == [], 'it comes after the log'
 
 
 @pytest.mark.parametrize(('accounts', 'stands', 'code', 'told'), [
-    (0, 40, 7, 'has not account 3'), (2, 40, 7, 'has not account 3'), (3, 41, 7, 'is of another log'),
+    (0, 40, 7, 'have not account 3'), (2, 40, 7, 'have not account 3'), (3, 41, 7, 'are of another log'),
     (3, 40, 8, 'with registry 7, and this is registry 8')])
 def test_a_book_of_another_beginning_is_told(book: SimpleNamespace, accounts: int, stands: int, code: int,
                                              told: str) -> None:
     book.accounts, book.code = accounts, code
-    found = list(report.book_ailments(40, stands))
-    assert len(found) == 1 and told in found[0][0] and 'records.conf' in ' '.join(found[0]), found
+    found = list(doctor.of_book(40, stands))
+    assert len(found) == 1 and told in found[0].what and 'records.conf' in found[0].text(), found
+    assert found[0].row is doctor.Row.RECORDS
 
 
 def test_the_book_is_asked_before_the_log(monkeypatch: pytest.MonkeyPatch, book: SimpleNamespace) -> None:
@@ -496,17 +547,18 @@ def test_the_book_is_asked_before_the_log(monkeypatch: pytest.MonkeyPatch, book:
         return answer
 
     today = datetime.date.today().isoformat()
-    monkeypatch.setattr(report, 'book', lambda: went_on({'entry': state['entry'], 'today': today}))
-    monkeypatch.setattr(report, 'health', lambda: went_on(('', state['entry'])))
-    assert list(report.registry_ailments()) == []
+    monkeypatch.setattr(doctor, 'book', lambda: went_on({'entry': state['entry'], 'today': today}))
+    monkeypatch.setattr(doctor, 'health', lambda: went_on(Health('', state['entry'])))
+    assert list(doctor.of_registry()) == []
 
 
 def test_what_services_wrote_reaches_no_terminal_as_it_is(capsys: pytest.CaptureFixture[str],
                                                           monkeypatch: pytest.MonkeyPatch) -> None:
-    monkeypatch.setattr(report, 'ailments', lambda: iter([('\x1b[2Ja\r\nb', 'c\x07')]))
-    assert report.doctor(None) == 1
+    finding = doctor.Finding('\x1b[2Ja\r\nb', doctor.Row.UNIT, 'c\x07')
+    monkeypatch.setattr(doctor, 'findings', lambda: iter([finding]))
+    assert doctor.doctor() == 1
     said = capsys.readouterr().out
-    assert said.splitlines()[:2] == ['?[2Ja??b', '    c?'], said
+    assert said.splitlines()[:3] == ['?[2Ja??b', '    WRONG.md, "A unit has failed"', '    c?'], said
 
 
 # ------------------------------------------------------------------ the units

@@ -26,6 +26,8 @@ MASKED = ('systemd-sysctl', 'systemd-modules-load', 'systemd-udevd', 'systemd-ud
 NODES = {'null': (1, 3), 'zero': (1, 5), 'full': (1, 7), 'random': (1, 8), 'urandom': (1, 9),
          'tty': (5, 0)}
 """The devices that every program may have."""
+ROOM = '1400m'
+"""Of what is written there. goo-setup doctor tells of less than a gigabyte that is free."""
 SERVICE = '''[Unit]
 DefaultDependencies=no
 After=systemd-journald.service
@@ -83,7 +85,7 @@ def become_systemd(folder: Path, words: list[str]) -> None:
     """Makes the root, goes into it, and becomes systemd."""
     subprocess.run(['mount', '--make-rprivate', '/'], check=True)
     layers = folder / 'layers'
-    mount('tmpfs', layers, 'size=900m')
+    mount('tmpfs', layers, f'size={ROOM}')
     root, upper, work = layers / 'root', layers / 'upper', layers / 'work'
     upper.mkdir()
     work.mkdir()

@@ -6,13 +6,11 @@ usage: goo-copies restore | recount | digest WORD ..
 """
 import sys
 
-from goo_service.copies import backup
 from goo_service.copies import digest
 from goo_service.copies import recount
 from goo_service.copies import restore
 
-COMMANDS = {'restore': restore.main, 'recount': recount.main, 'digest': digest.main,
-            'backup': backup.main}
+COMMANDS = {'restore': restore.main, 'recount': recount.main, 'digest': digest.main}
 
 
 def main() -> int | None:

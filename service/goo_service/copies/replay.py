@@ -185,15 +185,15 @@ def bring_up(goo: Program, db: Path, archive: Path, place: Place, key: bytes | N
              last: int | None = None) -> Place:
     """Applies the entries after a place to a database, up to entry `last`; the place after them."""
     replay, now = Replay(goo, db), place
-    for record in records_of(archive, place.n, key):
+    for record in () if place.n == last else records_of(archive, place.n, key):
         entry = record.entry
-        if last is not None and entry.n > last:
-            break
         if (entry.n, entry.prev) != (now.n + 1, now.hash):
             raise Broken(f'entry {entry.n} of the archive does not follow entry {now.n} '
                          'of the copy')
         replay.add(record)
         now = Place(entry.n, record.hash, record.outcome.chain, entry.version)
+        if now.n == last:                       # what comes behind it may be damaged
+            break
     replay.flush()
     if last is not None and now.n != last:
         raise Broken(f'the archive ends at entry {now.n}, before entry {last}')

@@ -1,6 +1,7 @@
-"""Prints which entry the registry of this host has applied last, which entry is the last of its log, and
-the version that applies the next one. `goo-setup` runs this as the user who owns the log, while the
-replica does not run.
+"""Prints the entry that the registry has applied last, the last of its log, and the next version.
+
+The version is the one that applies the next entry. `goo-setup` runs this as the user who owns the
+log, while the replica does not run.
 """
 import pathlib
 import sys

@@ -74,7 +74,8 @@ def shown() -> str:
 
 
 def noted(path: pathlib.Path | None) -> dict[str, int]:
-    """How often each unit was started again up to the last look; nothing where nobody has looked."""
+    """How often each unit was started again up to the last look; nothing where nobody has looked.
+    """
     try:
         found = json.loads(path.read_text(encoding='utf-8')) if path else {}
     except (OSError, ValueError):
