@@ -279,9 +279,12 @@ class House:
             return False
 
     def is_made(self, begun: float) -> bool:
-        """Whether a book was published since a time."""
-        current = self.book / 'current'
-        return current.is_symlink() and current.lstat().st_mtime >= begun - 0.01
+        """Whether a book has caught up since a time: it was published then, or goes on."""
+        said = self.parts['records'].said
+        lines = said.read_text().splitlines() if said.exists() else []
+        if not lines or said.stat().st_mtime < begun - 0.01:
+            return False
+        return ': the book is made, ' in lines[-1] or ': the book goes on ' in lines[-1]
 
     # ---------------------------------------------------------------- parts
 
