@@ -4,7 +4,7 @@
 import {h, table, count, result, save, csvButton, printButton} from './dom.js';
 import {bars} from './charts.js';
 import {t} from './language.js';
-import {asked, everyItem, records} from './records.js';
+import {asked, everyItem, followed, records} from './records.js';
 import {audited} from './registry.js';
 import * as texts from './texts.js';
 import {problemOf} from './words.js';
@@ -19,6 +19,7 @@ function line({gsrn, declared_wh, corrected_wh, issued, withdrawn, carry_wh}) {
 
 /** The devices with their sums. */
 async function devices() {
+  if (records.isThere) await followed();
   const rows = records.isThere ? (await everyItem('devices')).map(line) : [null];
   return rows.includes(null) ? (await audited()).rows : rows;
 }
@@ -55,6 +56,7 @@ export async function audit() {
 /** The carry of a device; undefined where there is no such device. */
 async function carryOf(device) {
   if (!records.isThere) return (await audited()).rows.find((r) => r.device === device)?.carry;
+  await followed();
   const [found] = (await asked('devices', {device})).items;
   return found && BigInt(found.carry_wh);
 }

@@ -4,7 +4,7 @@
 import {count, special} from './dom.js';
 import {known, t} from './language.js';
 import {LISTS} from './paper.js';
-import {asked, everyItem, records} from './records.js';
+import {asked, everyItem, followed, records} from './records.js';
 import {statementOf, statements} from './registry.js';
 import {today, monthsAfter} from './session.js';
 
@@ -60,6 +60,7 @@ const daysBetween = (first, last) => Math.round((Date.parse(last) - Date.parse(f
 
 /** What a new date does to the certificates of each account, by the book: its list of deadlines up to the day before. */
 async function byDeadlines(day) {
+  await followed();
   const {stands: {today: date}} = await asked('status'), days = Math.min(MOST_DAYS, daysBetween(date, day) - 1);
   if (days < 0) return [];
   const lots = await everyItem('deadlines', {days});

@@ -2,7 +2,7 @@
 // there, the page shows what the registry itself tells.
 
 import {t} from './language.js';
-import {Unread, pause} from './registry.js';
+import {Unread, last, pause} from './registry.js';
 import * as words from './words.js';
 
 export const records = {isThere: false};
@@ -46,9 +46,9 @@ export async function asked(name, parameters, tries = 30) {
   throw new Unread(await problemOf(answer));
 }
 
-/** Waits until the records tell of this entry of the log: they are a second behind it at most. */
-export async function followed(entry) {
-  for (let tries = 60; (await asked('status')).stands.entry < entry && tries > 0; tries--) await pause(500);
+/** Waits until the records tell of this entry of the log, or of the last one that this page has made: they are a second behind it at most. */
+export async function followed(entry = last.entry) {
+  for (let tries = 60; entry > 0 && (await asked('status')).stands.entry < entry && tries > 0; tries--) await pause(500);
 }
 
 async function problemOf(answer) {

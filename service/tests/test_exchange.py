@@ -8,6 +8,7 @@ from pathlib import Path
 from typing import Any
 
 import pytest
+from goo_service.exchange import agent
 from goo_service.exchange import orders
 from goo_service.exchange import outbox as outboxes
 from goo_service.exchange.common import Again
@@ -21,6 +22,7 @@ from goo_service.exchange.ours import Ours
 from goo_service.exchange.outbox import Outbox
 from goo_service.exchange.peer import Peer
 from goo_service.exchange.report import write_states
+from goo_service.exchange.run import run as run_with
 from goo_service.exchange.signature import Key
 from goo_service.exchange.signature import is_signed
 from goo_service.exchange.visit import Visit
@@ -132,6 +134,9 @@ class Registry:
     def certificate(self, number: int) -> dict[str, Any] | None:
         there = any(number == parse_notice(text).parts[0].first for text in self.imported)
         return {'place': 'held', 'account': 1} if there else None
+
+    def has_foreign(self) -> bool:
+        return bool(self.imported)
 
     def import_notice(self, notice: Notice) -> str:
         if name := self.refuses(notice):
@@ -421,6 +426,71 @@ def test_a_registry_that_lost_what_it_imported_gets_it_again(side: Side) -> None
     side.registry.refuses = lambda notice: None
     side.collect()
     assert sorted(side.numbers()) == [1, 2]
+
+
+def test_what_is_no_notice_waits_and_is_bounded(side: Side) -> None:
+    side.door.show_notices(side.theirs, *(f'junk {position}' for position in range(1, 151)))
+    left = side.collect().left
+    assert left[0] == ('100 of its notices wait to be settled; no more are taken until some are')
+    assert len(list((side.folder / 'refused').iterdir())) == 100
+    assert side.numbers() == []
+
+
+# -------------------------------------------------------------------- whole runs
+
+def run_of(side: Side, *orders_given: str) -> int:
+    """The exit status of a run."""
+    words = agent.words().parse_args(list(orders_given))
+    registry: Any = side.registry
+    outbox = Outbox(side.folder / 'outbox', OURS, side.key)
+    return run_with(Ours(side.folder, registry, side.key, outbox), [side.door], words)
+
+
+def test_a_run_publishes_collects_and_reports(side: Side) -> None:
+    side.registry.sent = [notice_text(1, 9)]
+    side.door.show_notices(side.theirs, theirs(1))
+    assert run_of(side, '--new') == 0
+    side.registry.refuses = lambda notice: 'Stale' if notice.number == 2 else None
+    side.door.show_notices(side.theirs, *map(theirs, (1, 2)))
+    assert run_of(side) == 1
+    report = json.loads((side.folder / 'state.json').read_text())
+    peer, = report['peers']
+    assert (report['registry'], report['generation'], peer['registry']) == (7, 1, 9)
+    assert [(of['number'], of['became']) for of in peer['sent']] == [(1, 'published')]
+    assert [(of['number'], of['became'], of['settled']) for of in peer['received']] == [
+        (1, 'accepted', True), (2, 'refused: Stale', False)]
+    assert run_of(side, '--settle', '9', '2') == 0
+    with pytest.raises(ValueError, match='registry 8 has no section in the configuration'):
+        run_of(side, '--release', '8', '1')
+
+
+def test_a_new_folder_of_a_registry_that_has_exchanged_begins_nothing(side: Side) -> None:
+    side.registry.sent = [notice_text(1, 9)]
+    side.door.show_notices(side.theirs, theirs(1))
+    assert run_of(side) == 1
+    assert not (side.folder / 'generation.json').exists()
+    assert not (side.folder / 'outbox/09/1').exists()
+
+
+@pytest.mark.parametrize('name', ['inbox/09.json', 'generation.json', 'outbox/09/1'])
+def test_a_file_that_was_cut_off_is_told(side: Side, name: str,
+                                         capsys: pytest.CaptureFixture[str]) -> None:
+    side.registry.sent = [notice_text(1, 9)]
+    side.door.show_notices(side.theirs, theirs(1))
+    assert run_of(side, '--new') == 0
+    whole = (side.folder / name).read_text()
+    (side.folder / name).write_text(whole[:len(whole) // 2])
+    capsys.readouterr()
+    if name == 'generation.json':
+        with pytest.raises(Again, match='generation.json is damaged: .*; remove it and say'):
+            run_of(side)
+    else:
+        assert run_of(side) == (0 if name.startswith('outbox') else 1)
+        assert f'{name} is damaged' in capsys.readouterr().out
+    if not name.startswith('outbox'):
+        (side.folder / name).write_text(whole)
+    assert run_of(side) == 0
+    assert side.numbers() == [1]
 
 
 # -------------------------------------------------------------------- energy

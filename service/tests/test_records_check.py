@@ -13,12 +13,12 @@ from typing import Any
 
 import client
 import pytest
-from archives import make_archive
 from goo_service.copies import contents
 from goo_service.log import entries
 from goo_service.records import check
 from goo_service.records import follow
 from goo_service.records import schema
+from archives import make_archive       # it leads to service/ itself, and not to a copy of it
 from program import PROVED
 from records_trial import CODE
 from records_trial import Requests

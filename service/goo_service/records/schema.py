@@ -6,7 +6,9 @@ from goo_service.common.rules import LOT
 from goo_service.common.rules import PLANT
 
 FORM = 5
-"""Of these tables. A book of another form is made anew, and nothing is read from it until then."""
+"""Of these tables, and of what entries leave in them: it rises with each change of the tables, of
+the rules or of the book. A book of another form is made anew, and nothing is read from it until
+then."""
 
 
 def columns_of(members: tuple[str, ...]) -> str:

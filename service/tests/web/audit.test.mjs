@@ -6,6 +6,7 @@ import {audit, excess} from '../web/audit.js';
 import {doubtsOf} from '../web/doubts.js';
 import {h} from '../web/dom.js';
 import {records} from '../web/records.js';
+import {last} from '../web/registry.js';
 
 hurry();
 const STANDS = {code: 7, today: '2026-03-01', entry: 40, time: null};
@@ -29,6 +30,16 @@ test('the page on which the issuing body lands reads the book', async () => {
   const cells = texts(shown, 'td');
   assert.ok(cells.includes(DEVICES[1499].gsrn) && !cells.includes('does not hold'));
   assert.ok(shown.textContent.includes('7,500'));
+});
+
+test('what this page has sent is in the book before it is read', async () => {
+  records.isThere = true;
+  last.entry = 42;
+  let entry = 40;
+  const sent = answering((path) => path.includes('/status') ? json({stands: {...STANDS, entry: entry++}, caller: 'ISSUER'}) : part(path, DEVICES.slice(0, 1)));
+  await audit();
+  last.entry = 0;
+  assert.deepEqual(sent.map(({path}) => path.split('?')[0]), [...Array(3).fill('/records/v1/status'), '/records/v1/devices']);
 });
 
 test('a device that does not balance is told, and a sum that no browser reads exactly is read from the registry', async () => {
