@@ -1,8 +1,8 @@
 """A disk that keeps what was synced, by what strace saw of the processes that write on it.
 
 `watch` attaches strace to processes. Each call that it saw changes a Disk, in the order in which
-the calls ended, and `after_failure` says which files are there if the power fails then. What a process
-means to be on the disk plays no part in it.
+the calls ended, and `after_failure` says which files are there if the power fails then. What a
+process means to be on the disk plays no part in it.
 """
 import contextlib
 import random

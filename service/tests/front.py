@@ -112,6 +112,7 @@ def callers(place: Place, *words: str, path: str = '') -> 'subprocess.CompletedP
 
 def workers(place: Place) -> list[int]:
     """The numbers of nginx's workers."""
+    assert place.nginx
     number = place.nginx.pid
     return [int(one) for one in
             pathlib.Path(f'/proc/{number}/task/{number}/children').read_text().split()]

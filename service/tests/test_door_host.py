@@ -349,6 +349,7 @@ def rotated(place: Place) -> None:
     text = (SERVICE / 'etc/logrotate/goo').read_text()
     assert re.search(r'(?m)^\s*monthly$', text) and re.search(r'(?m)^\s*rotate 120$', text)
     conf = place.dir / 'logrotate.conf'
+    assert place.nginx
     conf.write_text(text.replace('/var/log/goo/', f'{place.dir}/').replace('www-data', 'root')
                     .replace('invoke-rc.d nginx rotate', f'kill -USR1 {place.nginx.pid}'))
     conf.chmod(0o644)

@@ -271,6 +271,7 @@ def test_statements_whose_reader_left_hold_up_nobody() -> None:
 def long_account(place: Place, count: int) -> None:
     """An account with twice as many runs: every other certificate is cancelled by itself."""
     device = '500000000000000012'
+    lines: list[tuple[str, dict[str, object]]]
     lines = [('ISSUER', {'command': 'open_holder', 'key': f'h-{holder}', 'holder': holder,
                          'name': holder}) for holder in ('SUN', 'VOLT')]
     lines += [('ISSUER', {'command': 'open_account', 'key': f'a-{name}', 'holder': name})

@@ -50,7 +50,7 @@ class Pages(http.server.BaseHTTPRequestHandler):
 
     def do_POST(self) -> None:
         length = min(int(self.headers.get('Content-Length', 0)), 10**7)
-        self.came.put([tuple(one) for one in json.loads(self.rfile.read(length))])
+        self.came.put([(title, fault) for title, fault in json.loads(self.rfile.read(length))])
         self.reply(200, 'text/plain', b'')
 
     def reply(self, status: int, kind: str, body: bytes) -> None:

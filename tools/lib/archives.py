@@ -4,12 +4,13 @@ usage: from archives import make_archive
        make_archive(goo, folder, [("office", "ISSUER", "/v1/requests", b'{"command":..}'), ..])
 """
 import datetime
+import os
 import pathlib
 import secrets
 import subprocess
 import sys
 
-sys.path.insert(0, str(pathlib.Path(__file__).resolve().parents[2] / 'service'))
+sys.path.insert(0, os.environ.get('GOO_SERVICE', str(pathlib.Path(__file__).resolve().parents[2] / 'service')))
 sys.dont_write_bytecode = True
 from goo_service.log import entries
 from goo_service.log.archive import Archive

@@ -3,6 +3,7 @@
 Both were written from docs/REGISTRY.md and docs/FORMATS.md, apart from the program. A Model reads bytes, carries out what they ask for, and gives each answer
 byte for byte: outcomes of lines, reports of tables, responses over HTTP, statements, documents and the audit, and the rows that the tables have to have.
 """
+import os
 import re
 import sqlite3
 import sys
@@ -10,7 +11,7 @@ from contextlib import closing
 from pathlib import Path
 
 TOP = Path(__file__).resolve().parents[2]
-sys.path.insert(0, str(TOP / 'service'))
+sys.path.insert(0, os.environ.get('GOO_SERVICE', str(TOP / 'service')))
 import mutations
 import readings
 from goo_service.copies import expected
