@@ -84,6 +84,7 @@ def test_bodies_of_any_bytes_come_back_over_months(bodies: list[bytes], turn: in
             archive.add(line, entry, outcome)
             prev, chain = entries.hash_of(line), outcome.chain
         archive.sync()
+        assert archive.file is not None
         os.close(archive.file)
         for _ in range(2):
             for after in range(len(bodies) + 1):
