@@ -133,7 +133,9 @@ COUNTS = strategies.lists(strategies.integers(1, 50), min_size=1, max_size=12)
 @given(COUNTS, strategies.data(), strategies.booleans())
 def test_a_choice_adds_up_and_is_within_its_runs(counts: list[int], data: strategies.DataObject,
                                                  fitting: bool) -> None:
-    runs = sorted(runs_of(counts), key=lambda run: -run['count']) if fitting else runs_of(counts)
+    runs = runs_of(counts)
+    if fitting:
+        runs.sort(key=lambda run: int(run['count']), reverse=True)
     wanted = data.draw(strategies.integers(1, sum(counts)))
     chosen = chosen_of(runs, wanted, fitting)
     numbers = [number for run in chosen for number in range(run['first'], run['last'] + 1)]

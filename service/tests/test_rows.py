@@ -32,5 +32,5 @@ def test_a_digest_is_of_values(values: dict[str, int | str], data: strategies.Da
         whole = digest_of(file, list(values.items()))
         assert digest_of(file, data.draw(strategies.permutations(list(values.items())))) == whole
         name = data.draw(strategies.sampled_from(sorted(values)))
-        assert digest_of(file, list({**values, name: 2**41}.items())) != whole
+        assert digest_of(file, list((values | {name: 2**41}).items())) != whole
         assert digest_of(file, [one for one in values.items() if one[0] != name]) != whole

@@ -45,7 +45,8 @@ def place_beginning(copy: Path, n: int, configuration: Path) -> str:
         BOOK.mkdir(mode=0o750)
         os.chown(BOOK, user.pw_uid, user.pw_gid)
     with ExitStack() as stack:
-        files = {name: stack.enter_context(open_regular(copy / name)) for name in FILES}
+        files: dict[str, BinaryIO] = {
+            name: stack.enter_context(open_regular(copy / name)) for name in FILES}
         done_as_owner(BOOK, lambda: write_first(files))
     write_whole(conf, '# How the book of acts begins (RECORDS.md)\n'
                 f'GOO_RECORDS_BEGIN=--copy {BOOK / FIRST} --after {n}\n', 0o644)
