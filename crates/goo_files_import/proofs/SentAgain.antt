@@ -1,5 +1,5 @@
 -- Rows that are imported again behind a part of them.
-use Rattle.std.proofs.Common.{◌≡◌, ◌∙◌, ◌==◌, ℕ, Bool, true, false, List, [], ◌∷◌, ◌++◌, length, Option, Some, None, if◌then◌else◌, map, refl, sym, ap, subst, inl, inr}
+use Rattle.std.proofs.Common.{◌≡◌, ◌∙◌, ◌==◌, ℕ, List, [], ◌∷◌, ◌++◌, length, Option, Some, None, map, refl, sym, ap, subst, inl, inr}
 use Rattle.std.proofs.lemmas.List.Elements.{All-nil, All-cons}
 use Rattle.std.specs.Result.{result_ok}
 use Rattle.csv.specs.Machine.{Read, next_record}
@@ -12,12 +12,11 @@ use Rattle.goo_types.specs.declared.outcome.Outcome.{Outcome}
 use Rattle.goo_types.specs.declared.outcome.Outcome.TheVariants as outcome
 use Rattle.goo_types.specs.declared.request.Request.{Request}
 use Rattle.goo_spec.specs.Run.{final, outcomes}
-use Rattle.goo_spec.specs.State.{State}
 use Rattle.goo_spec_again.specs.Whole as spec
 use Rattle.goo_spec_again.proofs.Declared.{declarations_again}
 use Rattle.goo_files_csv.specs.Rows.{field_in, declaration_in, header, request_in}
 use Rattle.goo_files_import.specs.Import.{importing, requests_with, requests_of}
-use Rattle.goo_files_import.specs.Laws.{AreAgain, IsAgain, IsAsImportedOnce, RowsSentAgain, TableSentAgain, in_place, results_of}
+use Rattle.goo_files_import.specs.Laws.{AreAgain, IsAgain, RowsSentAgain, TableSentAgain, in_place, results_of}
 use Rattle.goo_files_import.specs.Results.{result_of}
 use Rattle.goo_files_import.specs.declared.row_result.RowResult.{RowResult}
 use Rattle.goo_files_import.proofs.OneTable.{no_read, same_read}
@@ -83,7 +82,7 @@ rows_sent_again s caller part rest =
     let once = a_run s caller (part ++ rest) in
     let again = a_run mid caller (part ++ rest) in
     let lines : AreAgain part (results_of s caller (part ++ rest)) (results_of (final s ps) caller (part ++ rest)) =
-        lines_again caller part rest _ _ (subst (λ (l : List Request). spec.AreAgain ps (outcomes s l) (outcomes (final s ps) l)) (sym all) law.outcomes_are) in
+    lines_again caller part rest _ _ (subst (λ (l : List Request). spec.AreAgain ps (outcomes s l) (outcomes (final s ps) l)) (sym all) law.outcomes_are) in
     record {
       state = again.state ∙ (λ i. final (first.state i) (all i)) ∙ law.state ∙ sym (once.state ∙ ap (final s) all);
       lines_are = subst (λ (l : List RowResult). AreAgain part l (importing mid caller (part ++ rest)).lines) (sym once.lines_are)
@@ -111,7 +110,7 @@ without_header : (part rows rest : List Fields) → header ∷ rows ≡ (header 
 without_header part rows rest is = cc
 
 pub table_sent_again : TableSentAgain
-table_sent_again s caller input part rows (inl none) table = (rows, (ap (λ l. l ++ rows) (sym none), rows_sent_again s caller part rows))
+table_sent_again s caller input part rows (inl none) table = (rows, ap (λ l. l ++ rows) (sym none), rows_sent_again s caller part rows)
 table_sent_again s caller input part rows (inr (s1, ys, a)) (s2, zs, b, bn) =
     let found = begins _ _ _ (header ∷ part) (header ∷ rows) s1 s2 ys zs a b bn in
-    (found.0, (without_header part rows found.0 found.1, rows_sent_again s caller part found.0))
+    (found.0, without_header part rows found.0 found.1, rows_sent_again s caller part found.0)
