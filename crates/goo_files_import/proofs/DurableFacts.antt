@@ -5,20 +5,20 @@ use Rattle.goo_types.specs.declared.fault.Fault.TheVariants as fault
 use Rattle.goo_spec.specs.State.{State}
 use Rattle.goo_core_shelf.specs.Crash.{FindsOnly, FindsEither}
 use Rattle.goo_core_shelf.specs.Shelf.{IsTold}
-use Rattle.goo_core_shelf.specs.Desk.{Seen, StaysSure}
+use Rattle.goo_core_shelf.specs.Desk.{Seen}
 use Rattle.goo_files_csv.specs.Rows.{header}
 use Rattle.goo_files_streams.specs.Streams.{IsBroken}
 use Rattle.goo_files_streams.specs.declared.InputFault.{InputFault}
 use Rattle.goo_files_import.specs.Import.{Imported, importing, nothing_imported, state_after, with_row, with_rows}
 use Rattle.goo_files_import.specs.Results.{cause_of}
-use Rattle.goo_files_import.specs.Runs.{IfKnownBy, ImportsFirst, IsOfReading, IsReliable, IsToldBy, LeavesDesk, RunsRows, StopsBy}
+use Rattle.goo_files_import.specs.Runs.{IfKnownBy, ImportsFirst, ImportsRow, IsOfReading, IsReliable, IsToldBy, LeavesDesk, RunsRows, StopsBy}
 use Rattle.goo_files_import.specs.Table.{AreFirstRows, AreRows, BeginsTable, LacksHeader}
 use Rattle.goo_files_import.specs.declared.cause.Cause.{Cause}
 use Rattle.goo_files_import.specs.declared.cause.Cause.TheVariants.{Header, Read, Store, Memory}
 use Rattle.goo_files_import.specs.declared.cause.ImportFault.{ImportFault}
 use Rattle.goo_files_import.specs.declared.report.Report.{Report}
 use Rattle.goo_files_import.specs.declared.row_result.RowResult.{RowResult}
-use Rattle.goo_files_import.proofs.Importing.{Fields, IsImporting, imported_so, reliable_before, stays_both, stays_still, with-last, works_so}
+use Rattle.goo_files_import.proofs.Importing.{Fields, IsImporting, reliable_before, stays_both, stays_still, with-last, works_so}
 use Rattle.goo_files_import.proofs.PromiseFacts.{rows_promised}
 
 known : (cause : Cause) (new : Seen) (P : Type 0) → P → IfKnownBy cause new P
@@ -50,7 +50,7 @@ module _ (caller input : List ℕ) (leaves : Option State → Type 0) where
   pub imports_these : (old new : Seen) (done : List Fields) (lines : List RowResult) (f : ImportFault) → IsImporting old new caller done lines → IsReliable new → AreFirstRows input done → f.report.lines.items ≡ lines → (new.defects ≡ 0 → FindsOnly leaves new.state)
       → ImportsFirst caller old new leaves (Err f) input
   imports_these old new done lines f so reliable first same settled =
-      let are = imported_so old new caller done lines so reliable in
+      let are = so.are reliable in
       record {
         rows = done;
         upto = done;
@@ -66,7 +66,7 @@ module _ (caller input : List ℕ) (leaves : Option State → Type 0) where
   pub imports_all : (old new : Seen) (done : List Fields) (report : Report) → IsImporting old new caller done report.lines.items → IsReliable new → AreFirstRows input done → AreRows input done → (new.defects ≡ 0 → FindsOnly leaves new.state)
       → ImportsFirst caller old new leaves (Ok report) input
   imports_all old new done report so reliable first rows settled =
-      let are = imported_so old new caller done report.lines.items so reliable in
+      let are = so.are reliable in
       record {
         rows = done;
         upto = done;
@@ -83,12 +83,13 @@ module _ (caller input : List ℕ) (leaves : Option State → Type 0) where
   either_found mid new t (inr sure) same crash settled none = λ o may. inl (subst (FindsOnly leaves) (same sure) (settled sure) o may)
 
   -- a fault came at the next one
-  pub imports_next : (old mid new : Seen) (done : List Fields) (lines : List RowResult) (row : Fields) (of : Fault) (f : ImportFault) → IsImporting old mid caller done lines → IsReliable new → (new.corruptions ≡ 0 → mid.corruptions ≡ 0) → (new.defects ≡ 0 → mid.defects ≡ 0)
-      → AreFirstRows input done → BeginsTable input (header ∷ (done ++ row ∷ [])) → f.report.lines.items ≡ lines → f.cause ≡ cause_of of → (new.defects ≡ 0 → new.state ≡ mid.state)
-      → (new.corruptions ≡ 0 → mid.defects ≡ 0 → FindsEither leaves mid.state (state_after mid.state caller row)) → (new.defects ≡ 0 → FindsOnly leaves new.state) → ImportsFirst caller old new leaves (Err f) input
-  imports_next old mid new done lines row of f so reliable corruptions_stay defects_stay first more same why unchanged crash settled =
-      let before = reliable_before mid new corruptions_stay defects_stay reliable in
-      let are = imported_so old mid caller done lines so before in
+  pub imports_next : (Tells : RowResult → Type 0) (old mid new : Seen) (done : List Fields) (lines : List RowResult) (row : Fields) (of : Fault) (f : ImportFault) → IsImporting old mid caller done lines → IsReliable new
+      → ImportsRow {T = Unit {0}} caller row mid new leaves (Err of) Tells
+      → AreFirstRows input done → BeginsTable input (header ∷ (done ++ row ∷ [])) → f.report.lines.items ≡ lines → f.cause ≡ cause_of of
+      → (new.defects ≡ 0 → FindsOnly leaves new.state) → ImportsFirst caller old new leaves (Err f) input
+  imports_next Tells old mid new done lines row of f so reliable did first more same why settled =
+      let before = reliable_before mid new did.corruptions_stay did.defects_stay reliable in
+      let are = so.are before in
       let last : importing old.state caller (done ++ row ∷ []) ≡ with_row caller (importing old.state caller done) row = with-last caller (nothing_imported old.state) done row in
       let leaves_it : state_after mid.state caller row ≡ (importing old.state caller (done ++ row ∷ [])).state = ap (λ (s : State). state_after s caller row) are.state ∙ ap (λ (a : Imported). a.state) (sym last) in
       record {
@@ -97,10 +98,10 @@ module _ (caller input : List ℕ) (leaves : Option State → Type 0) where
         are = record { are_first = first; next = inr (row, refl, inr more) };
         all = tt;
         lines_are = same ∙ are.lines_are;
-        state = known_so f.cause of new _ why (λ sure. unchanged sure ∙ are.state);
+        state = known_so f.cause of new _ why (λ sure. did.unchanged sure ∙ are.state);
         promised = rows_promised old.state caller done;
         found = λ sure. subst (λ u. FindsEither leaves u (importing old.state caller (done ++ row ∷ [])).state) are.state
-            (subst (FindsEither leaves mid.state) leaves_it (either_found mid new (state_after mid.state caller row) reliable unchanged crash settled (works_so old mid caller done lines so before sure)));
+            (subst (FindsEither leaves mid.state) leaves_it (either_found mid new (state_after mid.state caller row) reliable did.unchanged did.crash settled (works_so old mid caller done lines so before sure)));
       }
 
 -- why it stopped
@@ -135,14 +136,14 @@ told_row T fault.Store cause refusals is told = subst (λ (c : Cause). IsToldBy 
 told_row T fault.Memory cause refusals is told = subst (λ (c : Cause). IsToldBy c refusals) (sym is) told
 
 -- and where a row's request failed
-pub desk_next : (T : Type 0) (old mid new : Seen) (caller : List ℕ) (done : List Fields) (lines : List RowResult) (of : Fault) (f : ImportFault) → IsImporting old mid caller done lines → f.cause ≡ cause_of of → (new.corruptions ≡ 0 → mid.corruptions ≡ 0)
-    → (new.defects ≡ 0 → mid.defects ≡ 0) → (mid.refusals ≡ 0 → IsTold {T = T} (Err of) new.refusals) → (new.corruptions ≡ 0 → mid.defects ≡ 0 → StaysSure mid new) → LeavesDesk old new (Err f)
-desk_next T old mid new caller done lines of f so why corruptions_stay defects_stay told stays = record {
-  corruptions_stay = λ none. so.corruptions_stay (corruptions_stay none);
-  defects_stay = λ none. so.defects_stay (defects_stay none);
-  told = λ none. told_row T of f.cause new.refusals why (told (so.told none));
+pub desk_next : (Tells : RowResult → Type 0) (leaves : Option State → Type 0) (old mid new : Seen) (caller : List ℕ) (done : List Fields) (lines : List RowResult) (row : Fields) (of : Fault) (f : ImportFault) → IsImporting old mid caller done lines → f.cause ≡ cause_of of
+    → ImportsRow {T = Unit {0}} caller row mid new leaves (Err of) Tells → LeavesDesk old new (Err f)
+desk_next Tells leaves old mid new caller done lines row of f so why did = record {
+  corruptions_stay = λ none. so.corruptions_stay (did.corruptions_stay none);
+  defects_stay = λ none. so.defects_stay (did.defects_stay none);
+  told = λ none. told_row (Unit {0}) of f.cause new.refusals why (did.told (so.told none));
   works = λ _ _. tt;
-  stays = λ honest none. let before = corruptions_stay honest in stays_both old mid new (so.stays before none) (stays honest (so.works before none));
+  stays = λ honest none. let before = did.corruptions_stay honest in stays_both old mid new (so.stays before none) (did.stays honest (so.works before none));
 }
 
 -- the input was turned down

@@ -1,9 +1,10 @@
 -- Rows imported in turn.
-use Rattle.std.proofs.Common.{◌≡◌, ◌∙◌, ℕ, List, [], ◌∷◌, ◌++◌, refl, ap, sym, arith, inl, inr}
+use Rattle.std.proofs.Common.{◌≡◌, ◌∙◌, ℕ, List, [], ◌∷◌, ◌++◌, Option, Result, Ok, OnOk, refl, ap, sym, subst, arith, inl, inr}
+use Rattle.goo_types.specs.declared.fault.Fault.{Fault}
 use Rattle.goo_spec.specs.State.{State}
 use Rattle.goo_core_shelf.specs.Desk.{Seen, StaysSure}
 use Rattle.goo_files_import.specs.Import.{Imported, with_row, with_rows, importing, nothing_imported, row_result, state_after}
-use Rattle.goo_files_import.specs.Runs.{IsReliable}
+use Rattle.goo_files_import.specs.Runs.{ImportsRow, IsReliable}
 use Rattle.goo_files_import.specs.declared.row_result.RowResult.{RowResult}
 
 abbrev pub Fields : Type 0
@@ -49,8 +50,7 @@ pub record IsImporting (old mid : Seen) (caller : List ℕ) (done : List Fields)
   pub corruptions_stay : mid.corruptions ≡ 0 → old.corruptions ≡ 0
   pub defects_stay : mid.defects ≡ 0 → old.defects ≡ 0
   pub told : old.refusals ≡ 0 → mid.refusals ≡ 0
-  pub honest : mid.corruptions ≡ 0 → AreImported old.state mid.state caller done lines
-  pub sure : mid.defects ≡ 0 → AreImported old.state mid.state caller done lines
+  pub are : IsReliable mid → AreImported old.state mid.state caller done lines
   pub works : mid.corruptions ≡ 0 → old.defects ≡ 0 → mid.defects ≡ 0
   pub stays : mid.corruptions ≡ 0 → old.defects ≡ 0 → StaysSure old mid
 
@@ -59,38 +59,29 @@ importing_start m caller = record {
   corruptions_stay = λ none. none;
   defects_stay = λ none. none;
   told = λ none. none;
-  honest = λ none. imported_none m.state caller;
-  sure = λ none. imported_none m.state caller;
+  are = λ reliable. imported_none m.state caller;
   works = λ none sure. sure;
   stays = λ none sure. stays_still m sure;
 }
 
--- one more row
-pub importing_on : (old mid new : Seen) (caller : List ℕ) (done : List Fields) (lines more : List RowResult) (row : Fields) → IsImporting old mid caller done lines
-    → (new.corruptions ≡ 0 → mid.corruptions ≡ 0) → (new.defects ≡ 0 → mid.defects ≡ 0) → (mid.refusals ≡ 0 → new.refusals ≡ 0)
-    → (new.corruptions ≡ 0 → more ≡ lines ++ row_result mid.state caller row ∷ []) → (new.corruptions ≡ 0 → new.state ≡ state_after mid.state caller row)
-    → (new.defects ≡ 0 → more ≡ lines ++ row_result mid.state caller row ∷ []) → (new.defects ≡ 0 → new.state ≡ state_after mid.state caller row)
-    → (new.corruptions ≡ 0 → mid.defects ≡ 0 → new.defects ≡ 0) → (new.corruptions ≡ 0 → mid.defects ≡ 0 → StaysSure mid new)
-    → IsImporting old new caller (done ++ row ∷ []) more
-importing_on old mid new caller done lines more row so corruptions_stay defects_stay told added state sure_added sure_state works stays = record {
-  corruptions_stay = λ none. so.corruptions_stay (corruptions_stay none);
-  defects_stay = λ none. so.defects_stay (defects_stay none);
-  told = λ none. told (so.told none);
-  honest = λ none. imported_more old.state mid.state new.state caller done lines more row (so.honest (corruptions_stay none)) (added none) (state none);
-  sure = λ none. imported_more old.state mid.state new.state caller done lines more row (so.sure (defects_stay none)) (sure_added none) (sure_state none);
-  works = λ none sure. works none (so.works (corruptions_stay none) sure);
-  stays = λ none sure. stays_both old mid new (so.stays (corruptions_stay none) sure) (stays none (so.works (corruptions_stay none) sure));
-}
+pub reliable_before : (mid new : Seen) → (new.corruptions ≡ 0 → mid.corruptions ≡ 0) → (new.defects ≡ 0 → mid.defects ≡ 0) → IsReliable new → IsReliable mid
+reliable_before mid new corruptions_stay defects_stay (inl honest) = inl (corruptions_stay honest)
+reliable_before mid new corruptions_stay defects_stay (inr sure) = inr (defects_stay sure)
 
--- what is known of them, however that is
-pub imported_so : (old mid : Seen) (caller : List ℕ) (done : List Fields) (lines : List RowResult) → IsImporting old mid caller done lines → IsReliable mid → AreImported old.state mid.state caller done lines
-imported_so old mid caller done lines so (inl honest) = so.honest honest
-imported_so old mid caller done lines so (inr sure) = so.sure sure
+-- one more row
+pub importing_on : (old mid new : Seen) (caller : List ℕ) (done : List Fields) (lines more : List RowResult) (row : Fields) (leaves : Option State → Type 0) (result : Result (Unit {0}) Fault) → IsImporting old mid caller done lines
+    → ImportsRow caller row mid new leaves result (λ told. OnOk result (more ≡ lines ++ told ∷ [])) → result ≡ Ok tt → IsImporting old new caller (done ++ row ∷ []) more
+importing_on old mid new caller done lines more row leaves result so did ok =
+    let here = subst (λ (r : Result (Unit {0}) Fault). ImportsRow caller row mid new leaves r (λ told. OnOk r (more ≡ lines ++ told ∷ []))) ok did in
+    record {
+      corruptions_stay = λ none. so.corruptions_stay (here.corruptions_stay none);
+      defects_stay = λ none. so.defects_stay (here.defects_stay none);
+      told = λ none. here.told (so.told none);
+      are = λ reliable. imported_more old.state mid.state new.state caller done lines more row (so.are (reliable_before mid new here.corruptions_stay here.defects_stay reliable)) (here.line reliable) (here.state reliable);
+      works = λ none sure. here.works none (so.works (here.corruptions_stay none) sure);
+      stays = λ none sure. stays_both old mid new (so.stays (here.corruptions_stay none) sure) (here.stays none (so.works (here.corruptions_stay none) sure));
+    }
 
 pub works_so : (old mid : Seen) (caller : List ℕ) (done : List Fields) (lines : List RowResult) → IsImporting old mid caller done lines → IsReliable mid → old.defects ≡ 0 → mid.defects ≡ 0
 works_so old mid caller done lines so (inl honest) none = so.works honest none
 works_so old mid caller done lines so (inr sure) none = sure
-
-pub reliable_before : (mid new : Seen) → (new.corruptions ≡ 0 → mid.corruptions ≡ 0) → (new.defects ≡ 0 → mid.defects ≡ 0) → IsReliable new → IsReliable mid
-reliable_before mid new corruptions_stay defects_stay (inl honest) = inl (corruptions_stay honest)
-reliable_before mid new corruptions_stay defects_stay (inr sure) = inr (defects_stay sure)

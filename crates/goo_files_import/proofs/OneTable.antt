@@ -11,10 +11,10 @@ use Rattle.goo_files_csv.specs.Rows.{header}
 abbrev Records : Type 0
 Records = List (List (List ℕ))
 
-same_read : (o : Option Read) (p q : Read) → o ≡ Some p → o ≡ Some q → p ≡ q
+pub same_read : (o : Option Read) (p q : Read) → o ≡ Some p → o ≡ Some q → p ≡ q
 same_read o p q a b = let both : Some p ≡ Some q = sym a ∙ b in cc
 
-no_read : (o : Option Read) (p : Read) → o ≡ None → o ≡ Some p → ⊥
+pub no_read : (o : Option Read) (p : Read) → o ≡ None → o ≡ Some p → ⊥
 no_read o p a b = let both : None ≡ Some p = sym a ∙ b in cc
 
 one : (cfg : Config) (s : State) (xs : List ℕ) (rows others : Records) (s1 s2 : State) (ys zs : List ℕ) → Reached cfg s xs rows s1 ys → next_record cfg s1 [] [] ys ≡ None → Reached cfg s xs others s2 zs → next_record cfg s2 [] [] zs ≡ None → rows ≡ others

@@ -15,15 +15,15 @@ use Rattle.goo_files_csv.specs.Rows.{◌>>=◌, field_in, declaration_in, reques
 use Rattle.goo_files_import.specs.Import.{importing, requests_with, requests_of}
 use Rattle.goo_files_import.proofs.Runs.{a_run}
 
-bind_some : {A B : Type 0} (o : Option A) (f : A → Option B) (y : B) → (o >>= f) ≡ Some y → (x : A) × (o ≡ Some x) × (f x ≡ Some y)
+pub bind_some : {A B : Type 0} (o : Option A) (f : A → Option B) (y : B) → (o >>= f) ≡ Some y → (x : A) × (o ≡ Some x) × (f x ≡ Some y)
 bind_some None f y is = absurd cc
 bind_some (Some x) f y is = (x, refl, is)
 
-chosen : (b : Bool) (o : Option Request) (q : Request) → (if b then o else None) ≡ Some q → o ≡ Some q
+pub chosen : (b : Bool) (o : Option Request) (q : Request) → (if b then o else None) ≡ Some q → o ≡ Some q
 chosen true o q is = is
 chosen false o q is = absurd cc
 
-same : (p q : Request) → Some p ≡ Some q → p ≡ q
+pub same : (p q : Request) → Some p ≡ Some q → p ≡ q
 same p q is = cc
 
 -- the request of a row is a declaration

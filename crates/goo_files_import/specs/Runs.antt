@@ -1,13 +1,15 @@
 -- What an import of rows comes to, however it ends.
-use Rattle.std.specs.Prelude.{◌≡◌, ◌⊎◌, ℕ, List, [], ◌∷◌, ◌++◌, Option, Result, Ok, Err, IfErr, IsErrAnd, OnOk}
+use Rattle.std.specs.Prelude.{◌≡◌, ◌⊎◌, ℕ, List, [], ◌∷◌, ◌++◌, Option, Result, Ok, Err, IfErr, IsErrAnd, OnOk, OnErr}
 use Rattle.std.specs.Io.KnownBytes.{Consumes}
+use Rattle.goo_types.specs.declared.fault.Fault.{Fault}
 use Rattle.goo_files_streams.specs.Streams.{IsWhole}
 use Rattle.goo_spec.specs.Promise.{IsPromised}
 use Rattle.goo_spec.specs.Sound.{IsSound}
 use Rattle.goo_spec.specs.State.{State}
 use Rattle.goo_core_shelf.specs.Crash.{FindsEither}
 use Rattle.goo_core_shelf.specs.Desk.{Seen, StaysSure}
-use Rattle.goo_files_import.specs.Import.{importing, requests_of}
+use Rattle.goo_core_shelf.specs.Shelf as shelf
+use Rattle.goo_files_import.specs.Import.{importing, requests_of, row_result, state_after}
 use Rattle.goo_files_import.specs.Table.{AreFirstRows, AreRows, LacksHeader}
 use Rattle.goo_files_import.specs.declared.cause.Cause.{Cause}
 use Rattle.goo_files_import.specs.declared.cause.Cause.TheVariants.{Header, Read, Store, Memory}
@@ -73,6 +75,20 @@ IsToldBy Memory refusals = refusals ≡ 0
 abbrev pub IsToldIn : Result Report ImportFault → ℕ → Type 0
 IsToldIn (Ok report) refusals = refusals ≡ 0
 IsToldIn (Err fault) refusals = IsToldBy fault.cause refusals
+
+-- One row was imported, whose result is told so: while the desk is reliable, its result and the state are those of the row, and a fault
+-- changes nothing. No corruption and no defect is forgotten, a refused call is told, and only a failed one brings a defect. A crash finds
+-- the row's request applied or not.
+pub record ImportsRow {T : Type 0} (caller : List ℕ) (row : List (List ℕ)) (old new : Seen) (leaves : Option State → Type 0) (result : Result T Fault) (IsTold : RowResult → Type 0) : Type 0 where
+  pub line : IsReliable new → IsTold (row_result old.state caller row)
+  pub state : IsReliable new → OnOk result (new.state ≡ state_after old.state caller row)
+  pub unchanged : new.defects ≡ 0 → OnErr result (new.state ≡ old.state)
+  pub corruptions_stay : new.corruptions ≡ 0 → old.corruptions ≡ 0
+  pub defects_stay : new.defects ≡ 0 → old.defects ≡ 0
+  pub told : old.refusals ≡ 0 → shelf.IsTold result new.refusals
+  pub works : new.corruptions ≡ 0 → old.defects ≡ 0 → OnOk result (new.defects ≡ 0)
+  pub stays : new.corruptions ≡ 0 → old.defects ≡ 0 → StaysSure old new
+  pub crash : new.corruptions ≡ 0 → old.defects ≡ 0 → FindsEither leaves old.state (state_after old.state caller row)
 
 -- what becomes of a desk: no corruption and no defect is forgotten, a refused call is told, and only a failed one brings a defect
 pub record LeavesDesk (old new : Seen) (result : Result Report ImportFault) : Type 0 where

@@ -1,11 +1,8 @@
 //! The rows of an import, applied in turn.
 ghost use Rattle.std.specs.Prelude.{◌≡◌, ◌++◌, ◌∷◌, [], IfOk, OnOk, OnErr};
 ghost use Rattle.csv.specs.Records.{fields_of};
-ghost use Rattle.goo_core_shelf.specs.Shelf.{IsTold};
-ghost use Rattle.goo_core_shelf.specs.Crash.{FindsEither};
-ghost use Rattle.goo_core_shelf.specs.Desk.{StaysSure};
-ghost use Rattle.goo_files_import.specs.Import.{row_result, state_after};
-ghost use Rattle.goo_files_import.specs.Runs.{ImportsFirst, IsReliable, LeavesDesk, RunsRows, Stops};
+ghost use Rattle.goo_files_import.specs.Runs.{ImportsFirst, ImportsRow, IsReliable, LeavesDesk};
+ghost use Rattle.goo_files_import.specs.Runs.{RunsRows, Stops};
 
 use crate::cause::{Cause, ImportFault};
 use crate::progress::ImportWatcher;
@@ -31,33 +28,8 @@ fn apply_row<D: Desk>(
     caller: &HolderCode,
     row: &ByteRecord,
 ) -> Result<RowResult, Fault>
-    ensures answer { (D.seen desk.new).corruptions ≡ 0
-        → IfOk result
-        (λ line. line ≡ row_result (D.seen desk.old).state caller.now (fields_of row.now)) }
-    ensures state { (D.seen desk.new).corruptions ≡ 0
-        → OnOk result
-        ((D.seen desk.new).state
-        ≡ state_after (D.seen desk.old).state caller.now (fields_of row.now)) }
-    ensures sure_answer { (D.seen desk.new).defects ≡ 0
-        → IfOk result
-        (λ line. line ≡ row_result (D.seen desk.old).state caller.now (fields_of row.now)) }
-    ensures sure_state { (D.seen desk.new).defects ≡ 0
-        → OnOk result
-        ((D.seen desk.new).state
-        ≡ state_after (D.seen desk.old).state caller.now (fields_of row.now)) }
-    ensures unchanged { (D.seen desk.new).defects ≡ 0
-        → OnErr result ((D.seen desk.new).state ≡ (D.seen desk.old).state) }
-    ensures defects_stay { (D.seen desk.new).defects ≡ 0 → (D.seen desk.old).defects ≡ 0 }
-    ensures corruptions_stay { (D.seen desk.new).corruptions ≡ 0
-        → (D.seen desk.old).corruptions ≡ 0 }
-    ensures told { (D.seen desk.old).refusals ≡ 0 → IsTold result (D.seen desk.new).refusals }
-    ensures works { (D.seen desk.new).corruptions ≡ 0 → (D.seen desk.old).defects ≡ 0
-        → OnOk result ((D.seen desk.new).defects ≡ 0) }
-    ensures crash { (D.seen desk.new).corruptions ≡ 0 → (D.seen desk.old).defects ≡ 0
-        → FindsEither (D.leaves desk.new) (D.seen desk.old).state
-        (state_after (D.seen desk.old).state caller.now (fields_of row.now)) }
-    ensures stays { (D.seen desk.new).corruptions ≡ 0 → (D.seen desk.old).defects ≡ 0
-        → StaysSure (D.seen desk.old) (D.seen desk.new) }
+    ensures row { ImportsRow caller.now (fields_of row.now) (D.seen desk.old) (D.seen desk.new)
+        (D.leaves desk.new) result (λ told. IfOk result (λ line. line ≡ told)) }
 {
     match read_row(caller, row) {
         Some(request) => Ok(RowResult::of(desk.apply(alloc, &request)?)),
@@ -73,38 +45,10 @@ fn import_row<D: Desk>(
     lines: &mut Vec<RowResult>,
     row: &ByteRecord,
 ) -> Result<(), Fault>
-    ensures lines { (D.seen desk.new).corruptions ≡ 0
-        → OnOk result
-        (lines.new.items
-        ≡ lines.old.items
-        ++ row_result (D.seen desk.old).state caller.now (fields_of row.now) ∷ []) }
-    ensures state { (D.seen desk.new).corruptions ≡ 0
-        → OnOk result
-        ((D.seen desk.new).state
-        ≡ state_after (D.seen desk.old).state caller.now (fields_of row.now)) }
-    ensures sure_lines { (D.seen desk.new).defects ≡ 0
-        → OnOk result
-        (lines.new.items
-        ≡ lines.old.items
-        ++ row_result (D.seen desk.old).state caller.now (fields_of row.now) ∷ []) }
-    ensures sure_state { (D.seen desk.new).defects ≡ 0
-        → OnOk result
-        ((D.seen desk.new).state
-        ≡ state_after (D.seen desk.old).state caller.now (fields_of row.now)) }
+    ensures row { ImportsRow caller.now (fields_of row.now) (D.seen desk.old) (D.seen desk.new)
+        (D.leaves desk.new) result
+        (λ told. OnOk result (lines.new.items ≡ lines.old.items ++ told ∷ [])) }
     ensures kept { OnErr result (lines.new.items ≡ lines.old.items) }
-    ensures unchanged { (D.seen desk.new).defects ≡ 0
-        → OnErr result ((D.seen desk.new).state ≡ (D.seen desk.old).state) }
-    ensures defects_stay { (D.seen desk.new).defects ≡ 0 → (D.seen desk.old).defects ≡ 0 }
-    ensures corruptions_stay { (D.seen desk.new).corruptions ≡ 0
-        → (D.seen desk.old).corruptions ≡ 0 }
-    ensures told { (D.seen desk.old).refusals ≡ 0 → IsTold result (D.seen desk.new).refusals }
-    ensures works { (D.seen desk.new).corruptions ≡ 0 → (D.seen desk.old).defects ≡ 0
-        → OnOk result ((D.seen desk.new).defects ≡ 0) }
-    ensures crash { (D.seen desk.new).corruptions ≡ 0 → (D.seen desk.old).defects ≡ 0
-        → FindsEither (D.leaves desk.new) (D.seen desk.old).state
-        (state_after (D.seen desk.old).state caller.now (fields_of row.now)) }
-    ensures stays { (D.seen desk.new).corruptions ≡ 0 → (D.seen desk.old).defects ≡ 0
-        → StaysSure (D.seen desk.old) (D.seen desk.new) }
 {
     if lines.try_reserve(1).is_err() {
         return Err(Fault::Memory);

@@ -86,7 +86,7 @@ loop-row-preserved g c =
     let now = at_more c.loop-row.row-iterator.rdr c.next-in-loop-row.new.self.rdr c.loop-row.row-iterator.left c.next-in-loop-row.new.self.left c.args.input.now (header ∷ inv.0) c.in-Ok.row inv.1 step in (
       inv.0 ++ fields_of c.in-Ok.row ∷ [],
       now,
-      importing_on old mid new c.args.caller.now inv.0 c.loop-row.lines.items c.import_row.new.lines.items (fields_of c.in-Ok.row) inv.2 c.import_row.ensures.corruptions_stay c.import_row.ensures.defects_stay (search rules) (search rules) (search rules) (search rules) (search rules) (search rules) c.import_row.ensures.stays,
+      importing_on old mid new c.args.caller.now inv.0 c.loop-row.lines.items c.import_row.new.lines.items (fields_of c.in-Ok.row) (g.D.Desk.leaves c.import_row.new.desk) c.import_row.result inv.2 c.import_row.ensures.row (search rules),
     )
 
 -- no more rows were read
@@ -116,17 +116,17 @@ returns-in-Err-clause-imports g c reliable =
     let inv = c.loop-row.invariant in
     let step = rw (c.in-Some.is, c.in-Ok.is) at ((c.next-in-loop-row.ensures.steps inv.1.turns inv.1.trim).0 inv.1.ready) in
     let now = at_more c.loop-row.row-iterator.rdr c.next-in-loop-row.new.self.rdr c.loop-row.row-iterator.left c.next-in-loop-row.new.self.left c.args.input.now (header ∷ inv.0) c.in-Ok.row inv.1 step in
-    imports_next c.args.caller.now c.args.input.now (g.D.Desk.leaves c.import_row.new.desk) (g.D.Desk.seen c.args.desk.now) (g.D.Desk.seen c.loop-row.desk) (g.D.Desk.seen c.import_row.new.desk) inv.0 c.loop-row.lines.items (fields_of c.in-Ok.row) c.in-Err.fault c.stopped-in-Err.result
-    inv.2 reliable c.import_row.ensures.corruptions_stay c.import_row.ensures.defects_stay
+    imports_next c.args.caller.now c.args.input.now (g.D.Desk.leaves c.import_row.new.desk) _ (g.D.Desk.seen c.args.desk.now) (g.D.Desk.seen c.loop-row.desk) (g.D.Desk.seen c.import_row.new.desk) inv.0 c.loop-row.lines.items (fields_of c.in-Ok.row) c.in-Err.fault c.stopped-in-Err.result
+    inv.2 reliable c.in-Err.ensures.row
     (inr (at_begins c.loop-row.row-iterator.rdr c.loop-row.row-iterator.left c.args.input.now (header ∷ inv.0) inv.1))
     (at_begins c.next-in-loop-row.new.self.rdr c.next-in-loop-row.new.self.left c.args.input.now (header ∷ (inv.0 ++ fields_of c.in-Ok.row ∷ [])) now)
-    (c.stopped-in-Err.ensures.lines ∙ search rules) (c.stopped-in-Err.ensures.cause ∙ c.of.ensures) (search rules) c.import_row.ensures.crash (g.met.D.Desk.settled c.import_row.new.desk)
+    (c.stopped-in-Err.ensures.lines ∙ c.in-Err.ensures.kept) (c.stopped-in-Err.ensures.cause ∙ c.of.ensures) (g.met.D.Desk.settled c.import_row.new.desk)
 
 pub returns-in-Err-clause-desk : goal.returns-in-Err-clause-desk
 returns-in-Err-clause-desk g c =
     let inv = c.loop-row.invariant in
-    desk_next (Unit {0}) (g.D.Desk.seen c.args.desk.now) (g.D.Desk.seen c.loop-row.desk) (g.D.Desk.seen c.import_row.new.desk) c.args.caller.now inv.0 c.loop-row.lines.items c.in-Err.fault c.stopped-in-Err.result
-    inv.2 (c.stopped-in-Err.ensures.cause ∙ c.of.ensures) c.import_row.ensures.corruptions_stay c.import_row.ensures.defects_stay c.in-Err.ensures.told c.import_row.ensures.stays
+    desk_next _ (g.D.Desk.leaves c.import_row.new.desk) (g.D.Desk.seen c.args.desk.now) (g.D.Desk.seen c.loop-row.desk) (g.D.Desk.seen c.import_row.new.desk) c.args.caller.now inv.0 c.loop-row.lines.items (fields_of c.in-Ok.row) c.in-Err.fault c.stopped-in-Err.result
+    inv.2 (c.stopped-in-Err.ensures.cause ∙ c.of.ensures) c.in-Err.ensures.row
 
 -- all rows were applied
 pub returns-clause-imports : goal.returns-clause-imports
