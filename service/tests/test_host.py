@@ -563,12 +563,16 @@ def test_what_services_wrote_reaches_no_terminal_as_it_is(capsys: pytest.Capture
 
 # ------------------------------------------------------------------ the units
 
+LINKED = [Path(target) for _, target in map(str.split, (SERVICE / 'debian/goo.links').read_text().splitlines())]
+"""What the package has by a link."""
+
+
 def drop_ins(unit: Path) -> list[Path]:
     """The files that systemd reads after a unit, in their order."""
-    folders = [unit.with_name(f'{unit.name}.d')]
-    if unit.name.startswith('goo-'):
-        folders.append(unit.with_name(f'goo-{unit.suffix}.d'))
-    return sorted((path for folder in folders for path in folder.glob('*.conf')), key=lambda path: path.name)
+    own, shared = unit.with_name(f'{unit.name}.d'), unit.with_name(f'goo-{unit.suffix}.d')
+    found = [*own.glob('*.conf'), *(shared.glob('*.conf') if unit.name.startswith('goo-') else ()),
+             *(shared / link.name for link in LINKED if link.parent.name == own.name)]
+    return sorted(found, key=lambda path: path.name)
 
 
 def lines_of(unit: Path) -> dict[str, list[str]]:
