@@ -1,22 +1,23 @@
 //! A database that holds a registry in tables of another form, which become ours.
 
-ghost use Rattle.std.specs.Prelude.{◌≡◌, ◌≤◌, false, IfOk, IfSome, OnErr, length};
+ghost use Rattle.std.specs.Prelude.{◌≡◌, ◌≤◌, false, None, IfOk, IfSome, OnErr, OnOk, IsTrue, length};
 ghost use Rattle.sqlite.specs.Held.{state};
 ghost use Rattle.sqlite.specs.State.{HasCleanDisk, Survives};
 ghost use Rattle.goo_tables_rows.specs.Stands.{Rests, IsSettled};
-ghost use Rattle.goo_store_adoption.specs.Adopted.{HoldSame, IsSameIn, count_of, AreAnswers};
+ghost use Rattle.goo_store_anew.specs.Answered.{IsSameIn, AreAnswers};
+ghost use Rattle.goo_store_adoption.specs.Judged.{count_of, IsRegistry, IsOurs, HoldsRegistry};
+ghost use Rattle.goo_store_adoption.specs.Judged.{HoldSame};
 
-use crate::answers::Answer;
-use crate::asking::{ask, ask_tables};
-use crate::beginning::{layout_of, only_row};
-use crate::judging::keep_rules;
+use crate::beginning::layout_of;
+use crate::judging::{judge, read_meta};
 use crate::observer::AdoptionObserver;
 use crate::room::{is_free, removals};
-use crate::rewriting::write_anew;
+use goo_store_anew::answers::Answer;
+use goo_store_anew::asking::ask_tables;
+use goo_store_anew::rewriting::write_anew;
 use goo_store_open::fault::{OpenFault, fault_of};
 use goo_store_open::layout::Layout;
 use goo_store_open::our_schema::{has_first_schema, has_our_schema};
-use goo_tables_rows::meta::MetaRow;
 use sqlite::{Alter, Connection, Error, ErrorCode};
 use std::alloc::Global;
 
@@ -47,79 +48,70 @@ fn tables_of(layout: Layout) -> usize
     }
 }
 
-/// How many tables and indexes.
-fn objects_of(layout: Layout) -> usize
-    ensures { result ≤ 18 }
-{
-    match layout {
-        Layout::First => 15,
-        Layout::Ours => 18,
-    }
-}
-
-/// What is known of a registry before its tables are written anew.
-#[derive(Drop)]
-struct Kept {
-    answers: Vec<Answer>,
-    views: Vec<String>,
-    layout: Layout,
-}
-
-/// The rows of a registry that keeps the rules of its version, and how its views are taken away.
+/// Of which version the tables are.
 ///
 /// # Errors
 ///
 /// `NotARegistry` where there is no table `meta` with its columns and its row; `Version` by that row;
-/// `Damaged` where a table or a column of its version is missing, a value can't be read or a rule is
-/// broken, and where a table of another program or a trigger is in the way; `Store` and `Memory`.
-fn find_kept<S: Alter>(alloc: Global, conn: &mut Connection<S>) -> Result<Kept, OpenFault>
-    ensures told { HasCleanDisk (state S.Store conn.new) → IsSettled (state S.Store conn.old)
-        → IfOk result (λ kept. AreAnswers (count_of kept.layout) (state S.Store conn.old).now
-        kept.answers.items) }
+/// `Damaged` where a value of it can't be read; `Store` and `Memory`.
+fn find_layout<S: Alter>(alloc: Global, conn: &mut Connection<S>) -> Result<Layout, OpenFault>
     ensures rests { HasCleanDisk (state S.Store conn.new) → IsSettled (state S.Store conn.old)
         → Rests (state S.Store conn.old) (state S.Store conn.new) }
     ensures outside { conn.old.in_transaction ≡ false → conn.new.in_transaction ≡ false }
     ensures survives { Survives (state S.Store conn.old) (state S.Store conn.new) (λ _. ⊥) }
-    ensures few { IfOk result (λ kept. length kept.answers.items ≤ 16) }
 {
-    let rows = match ask(conn, 0) {
-        Ok(rows) => rows,
-        Err(error) => return Err(fault_of(error, OpenFault::NotARegistry)),
-    };
-    let row = only_row(alloc, &rows)?;
-    let layout = layout_of(&row)?;
+    match ask_tables(alloc, conn, 1) {
+        Ok(answers) => layout_of(read_meta(alloc, &answers)?.version),
+        Err(error) => Err(fault_of(error, OpenFault::NotARegistry)),
+    }
+}
+
+/// What was answered of a registry before its tables are written anew.
+#[derive(Drop)]
+struct Kept {
+    answers: Vec<Answer>,
+    /// What takes its views away.
+    views: String,
+}
+
+/// The rows of tables of this version, which keep its rules, and how the views are taken away.
+///
+/// # Errors
+///
+/// `Damaged` where a table or a column of the version is missing, a value can't be read or a rule is
+/// broken, and where a table of another program or a trigger is in the way; `Store` and `Memory`.
+fn keep_tables<S: Alter>(
+    alloc: Global,
+    conn: &mut Connection<S>,
+    layout: Layout,
+) -> Result<Kept, OpenFault>
+    ensures told { HasCleanDisk (state S.Store conn.new) → IsSettled (state S.Store conn.old)
+        → IfOk result (λ kept. AreAnswers (count_of layout) (state S.Store conn.old).now
+        kept.answers.items) }
+    ensures judged { IfOk result (λ kept. IsRegistry layout kept.answers.items) }
+    ensures few { IfOk result (λ kept. length kept.answers.items ≤ 16) }
+    ensures rests { HasCleanDisk (state S.Store conn.new) → IsSettled (state S.Store conn.old)
+        → Rests (state S.Store conn.old) (state S.Store conn.new) }
+    ensures works { OnOk result (HasCleanDisk (state S.Store conn.new)
+        → IsTrue (state S.Store conn.new).is_open) }
+    ensures outside { conn.old.in_transaction ≡ false → conn.new.in_transaction ≡ false }
+    ensures survives { Survives (state S.Store conn.old) (state S.Store conn.new) (λ _. ⊥) }
+{
     let answers = match ask_tables(alloc, conn, tables_of(layout)) {
         Ok(answers) => answers,
         Err(error) => return Err(fault_of(error, OpenFault::Damaged)),
     };
-    judge(alloc, row.meta, &answers)?;
+    judge(alloc, layout, &answers)?;
     let views = views_of(alloc, &*conn)?;
-    Ok(Kept {
-        answers,
-        views,
-        layout,
-    })
+    Ok(Kept { answers, views })
 }
 
-/// Judges what was answered.
-///
-/// # Errors
-///
-/// `Damaged` where a value can't be read or a rule is broken; `Memory`.
-fn judge(alloc: Global, meta: MetaRow, answers: &[Answer]) -> Result<(), OpenFault> {
-    match keep_rules(alloc, meta, answers) {
-        Ok(true) => Ok(()),
-        Ok(false) => Err(OpenFault::Damaged),
-        Err(error) => Err(fault_of(error, OpenFault::Damaged)),
-    }
-}
-
-/// How the views are taken away.
+/// The statements that take the views away.
 ///
 /// # Errors
 ///
 /// `Damaged` where a view, a table of another program or a trigger is in the way; `Memory`.
-fn views_of<S: Alter>(alloc: Global, conn: &Connection<S>) -> Result<Vec<String>, OpenFault> {
+fn views_of<S: Alter>(alloc: Global, conn: &Connection<S>) -> Result<String, OpenFault> {
     if !is_free(conn.schema()) {
         return Err(OpenFault::Damaged);
     }
@@ -149,6 +141,12 @@ pub fn adopt<S: Alter, A: AdoptionObserver>(
     ensures same { HasCleanDisk (state S.Store conn.new)
         → IfOk result (λ done. IfSome done (λ layout. IsSameIn (count_of layout)
         (state S.Store conn.old).now (state S.Store conn.new).now)) }
+    ensures judged { HasCleanDisk (state S.Store conn.new)
+        → IfOk result (λ done. IfSome done (λ layout. HoldsRegistry layout
+        (state S.Store conn.old).now)) }
+    ensures needless { IsOurs (state S.Store conn.old).now.schema
+        → (result ≡ Ok None) × (conn.new ≡ conn.old) }
+    ensures other { result ≡ Ok None → IsOurs (state S.Store conn.old).now.schema }
     ensures kept { HasCleanDisk (state S.Store conn.new)
         → OnErr result (Rests (state S.Store conn.old) (state S.Store conn.new)) }
     ensures crash { Survives (state S.Store conn.old) (state S.Store conn.new)
@@ -158,16 +156,11 @@ pub fn adopt<S: Alter, A: AdoptionObserver>(
     if has_our_schema(&*conn) || has_first_schema(&*conn) {
         return Ok(None);
     }
-    let kept = find_kept(alloc, conn)?;
+    let layout = find_layout(alloc, conn)?;
+    let kept = keep_tables(alloc, conn, layout)?;
     observer.adopts();
-    match write_anew(
-        alloc,
-        conn,
-        &kept.views,
-        objects_of(kept.layout),
-        &kept.answers,
-    ) {
-        Ok(()) => Ok(Some(kept.layout)),
+    match write_anew(alloc, conn, kept.views.as_str(), &kept.answers) {
+        Ok(()) => Ok(Some(layout)),
         Err(error) => Err(word_of_writing(error)),
     }
 }

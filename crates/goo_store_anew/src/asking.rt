@@ -46,6 +46,9 @@ pub fn ask_tables<S: Alter>(
     requires { count ≤ 16 }
     ensures told { HasCleanDisk (state S.Store conn.new) → IsSettled (state S.Store conn.old)
         → IfOk result (λ answers. AreAnswers count (state S.Store conn.old).now answers.items) }
+    ensures long { IfOk result (λ answers. length answers.items ≡ count) }
+    ensures works { OnOk result (HasCleanDisk (state S.Store conn.new) → 0 < count
+        → IsTrue (state S.Store conn.new).is_open) }
     ensures rests { HasCleanDisk (state S.Store conn.new) → IsSettled (state S.Store conn.old)
         → Rests (state S.Store conn.old) (state S.Store conn.new) }
     ensures outside { conn.old.in_transaction ≡ false → conn.new.in_transaction ≡ false }

@@ -4,7 +4,8 @@
 use goo_store_adoption::adopting::adopt;
 use goo_store_adoption::observer::AdoptionObserver;
 use goo_store_open::fault::OpenFault;
-use goo_store_open::our_schema::has_our_schema;
+use goo_store_open::layout::Layout;
+use goo_store_open::our_schema::{has_first_schema, has_our_schema};
 use sqlite::{Connection, MemStore};
 use std::alloc::Global;
 use std::process::Abort;
@@ -46,18 +47,25 @@ fn made(rt: &impl Abort, alloc: Global, texts: &[&str]) -> Connection<MemStore> 
     conn
 }
 
+/// Whether the tables are ours, of the version that an adoption found.
+fn are_ours(conn: &Connection<MemStore>, layout: Option<Layout>) -> bool {
+    match layout {
+        Some(Layout::First) => has_first_schema(conn),
+        Some(Layout::Ours) => has_our_schema(conn),
+        None => false,
+    }
+}
+
 /// Tables of these texts become ours, and are so once more.
 fn is_adopted(rt: &impl Abort, alloc: Global, texts: &[&str], what: &str) {
     let mut conn = made(rt, alloc, texts);
     let mut told = Told { times: 0 };
-    holds(rt, !has_our_schema(&conn), what);
     match adopt(alloc, &mut conn, &mut told) {
-        Ok(done) => holds(rt, done.is_some(), "it is ours already"),
+        Ok(done) => holds(rt, are_ours(&conn, done), "they are not ours then"),
         Err(fault) => assert!(rt; false, "{what}: {fault}"),
     }
-    holds(rt, has_our_schema(&conn), "another schema is left");
     let again = adopt(alloc, &mut conn, &mut told);
-    holds(rt, matches!(again, Ok(None)), "it is not ours then");
+    holds(rt, matches!(again, Ok(None)), "they are adopted twice");
     holds(rt, told.times == 1, "it is told more than once");
 }
 
@@ -80,6 +88,20 @@ fn tables_in_another_order(rt: HostRuntime) {
 #[test]
 fn tables_of_no_types(rt: HostRuntime) {
     is_adopted(&rt, rt.alloc(), &[UNTYPED, ROWS], "untyped");
+}
+
+#[test]
+fn tables_of_version_one(rt: HostRuntime) {
+    is_adopted(
+        &rt,
+        rt.alloc(),
+        &[
+            UNTYPED,
+            ROWS,
+            "DROP TABLE lot_carrier; DROP TABLE device_carrier; DROP TABLE correction; UPDATE meta SET version = 1",
+        ],
+        "version 1",
+    );
 }
 
 #[test]

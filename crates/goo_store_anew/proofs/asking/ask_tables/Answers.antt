@@ -5,8 +5,7 @@ use Rattle.sqlite.specs.Effect.{Database}
 use Rattle.goo_tables_rows.proofs.Inside.{stays, survives_both}
 use Rattle.goo_tables_rows.specs.Stands.{Rests, IsSettled}
 use Rattle.goo_store_anew.specs.declared.answers.Answer.{Answer}
-use Rattle.goo_store_anew.specs.Answered.{Answers, rows_at}
-use Rattle.goo_store_anew.specs.Questions.{question_texts}
+use Rattle.goo_store_anew.specs.Answered.{Shows, rows_at}
 use Rattle.goo_store_anew.proofs.Rows.{below, rows_before, rows_last}
 use Rattle.goo_store_anew.proofs.Resting.{rests_itself, rests_then, settled_still}
 use Rattle.goo_store_anew.proofs.asking.ask_tables.Goals as goal
@@ -14,7 +13,7 @@ use Rattle.goo_store_anew.proofs.asking.ask_tables.Goals as goal
 pub loop-at-init : goal.loop-at-init
 loop-at-init g c =
     let a = state g.S.Store c.args.conn.now in
-    record { within = omega arith; long = search rules; outside = λ it. it; survives = stays a; rests = λ _ _. rests_itself a; told = λ clean settled i low. absurd (omega (arith, low)) }
+    record { within = omega arith; long = search rules; outside = λ it. it; survives = stays a; rests = λ _ _. rests_itself a; works = λ _ low. absurd (omega (arith, low)); told = λ clean settled i low. absurd (omega (arith, low)) }
 
 pub loop-at-preserved : goal.loop-at-preserved
 loop-at-preserved g c =
@@ -34,17 +33,18 @@ loop-at-preserved g c =
           let early : HasCleanDisk b = omega (arith, clean, c.ask.ensures.survives.clean) in
           let one = c.loop-at.invariant.rests early settled in
           rests_then a b d one (c.ask.ensures.rests clean (settled_still a b settled one));
+      works = λ clean _. c.in_ok-rows.ensures.works clean;
       told = λ clean settled i low.
           let early : HasCleanDisk b = omega (arith, clean, c.ask.ensures.survives.clean) in
           let one = c.loop-at.invariant.rests early settled in
           let two = c.ask.ensures.rests clean (settled_still a b settled one) in
           let still : b.now ≡ a.now = one.now (two.was_open (c.in_ok-rows.ensures.works clean)) in
-          let last : Answers a.now (get_or question_texts at []) x.rows.items = subst (λ (e : Database). Answers e (get_or question_texts at []) x.rows.items) still (c.in_ok-rows.ensures.told clean) in
-          subst (λ (xs : List Answer). Answers a.now (get_or question_texts i []) (rows_at xs i)) (sym items)
+          let last : Shows a.now at x.rows.items = subst (λ (e : Database). Shows e at x.rows.items) still (c.in_ok-rows.ensures.told clean) in
+          subst (λ (xs : List Answer). Shows a.now i (rows_at xs i)) (sym items)
           (elim (below i at low) [
-            | inl less ↦ subst (Answers a.now (get_or question_texts i [])) (sym (rows_before had x i (omega (arith, less, c.loop-at.invariant.long)))) (c.loop-at.invariant.told early settled i less)
-            | inr is ↦ subst (λ n. Answers a.now (get_or question_texts n []) (rows_at (had ++ x ∷ []) n)) (c.loop-at.invariant.long ∙ sym is)
-                (subst (Answers a.now (get_or question_texts (length had) [])) (sym (rows_last had x)) (subst (λ n. Answers a.now (get_or question_texts n []) x.rows.items) (sym c.loop-at.invariant.long) last))
+            | inl less ↦ subst (Shows a.now i) (sym (rows_before had x i (omega (arith, less, c.loop-at.invariant.long)))) (c.loop-at.invariant.told early settled i less)
+            | inr is ↦ subst (λ n. Shows a.now n (rows_at (had ++ x ∷ []) n)) (c.loop-at.invariant.long ∙ sym is)
+                (subst (Shows a.now (length had)) (sym (rows_last had x)) (subst (λ n. Shows a.now n x.rows.items) (sym c.loop-at.invariant.long) last))
           ]);
     }
 
@@ -75,3 +75,6 @@ returns-clause-told g c = λ clean settled. (
   omega (arith, c.loop-at.invariant.long, c.loop-at.invariant.within, c.loop-at-test.false),
   λ i low. c.loop-at.invariant.told clean settled i (omega (arith, low, c.loop-at-test.false)),
 )
+
+pub returns-clause-works : goal.returns-clause-works
+returns-clause-works g c = λ clean low. c.loop-at.invariant.works clean (omega (arith, low, c.loop-at-test.false))
