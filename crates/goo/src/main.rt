@@ -3,13 +3,11 @@
 //! it says of these goes to standard error.
 #![tactic(auto)]
 
-mod adopting;
 mod files;
 mod host_listener;
 mod object;
 mod reason;
 
-use crate::adopting::{Adoption, adopt_at};
 use crate::files::{Opened, let_go, open_kept, open_new};
 use crate::host_listener::HostListener;
 use crate::object::Object;
@@ -91,7 +89,7 @@ fn perform_job<W: Write + Drop>(
 ) -> (Ending, Option<Reason>) {
     match job {
         Job::Make(path, opening) => make_at(rt, *path, Unknown, copy_of(opening), writer),
-        Job::InFile(path, work) => work_in_any_form(rt, *path, work, writer),
+        Job::InFile(path, work) => work_at(rt, *path, Unknown, work, writer),
         Job::InMemory(opening, work) => {
             let opening = copy_of(opening);
             let mut listener = HostListener::new(rt);
@@ -130,28 +128,6 @@ fn make_at<S: Start, W: Write + Drop>(
 /// How the program ends where the files of a registry are not opened.
 fn refused(refusal: OpeningFailure) -> (Ending, Option<Reason>) {
     (Ending::Failed(refusal.failure), refusal.reason)
-}
-
-/// Works with the registry in the file at a path, whose tables are written anew first where they are
-/// in another form than the program's own.
-fn work_in_any_form<W: Write + Drop>(
-    rt: &HostRuntime,
-    path: &str,
-    work: &Work,
-    writer: &mut BufWriter<W>,
-) -> (Ending, Option<Reason>) {
-    let (ending, reason) = work_at(rt, path, Unknown, work, writer);
-    if !matches!(
-        ending,
-        Ending::Failed(Failure::NotARegistry | Failure::Damaged)
-    ) {
-        return (ending, reason);
-    }
-    match adopt_at(rt, path, Unknown) {
-        Adoption::Done => work_at(rt, path, Unknown, work, writer),
-        Adoption::Needless => (ending, reason),
-        Adoption::Refused(failure) => (Ending::Failed(failure), reason),
-    }
 }
 
 /// Works with the registry in the file at a path.
