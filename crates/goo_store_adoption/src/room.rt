@@ -36,9 +36,7 @@ pub fn is_free(schema: &Schema) -> bool {
     let tables = schema.tables.as_slice();
     let views = schema.views.as_slice();
     tables.iter().all(|table| is_known(table.name.as_slice()))
-        && views
-            .iter()
-            .all(|view| view.foreign.is_none() && !view.binds && !view.is_bound)
+        && views.iter().all(|view| view.foreign.is_none() && !view.binds && !view.is_bound)
 }
 
 /// How a view is taken away: none, where its name can't stand in quotes.

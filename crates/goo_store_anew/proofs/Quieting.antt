@@ -1,6 +1,6 @@
 -- Steps inside a transaction, one after another.
 use Rattle.std.proofs.Common.{arith}
-use Rattle.sqlite.specs.State.{State, HasCleanDisk, KeepsCommit, Survives}
+use Rattle.sqlite.specs.State.{State}
 use Rattle.goo_tables_rows.proofs.Inside.{keeps_then, keeps_itself, survives_both, stays}
 use Rattle.goo_store_anew.specs.Quiet.{IsQuiet}
 

@@ -1,5 +1,5 @@
 -- Calls that change nothing, one after another.
-use Rattle.std.proofs.Common.{◌≡◌, ◌∙◌, IsTrue, refl, sym}
+use Rattle.std.proofs.Common.{◌∙◌, refl, sym}
 use Rattle.sqlite.specs.State.{State}
 use Rattle.goo_tables_rows.specs.Stands.{Rests, IsSettled}
 

@@ -69,4 +69,3 @@ understood_bare schema sql is = go (reads_listing schema sql)
     go : (b : Bool) → IsBare (if b then if_select (compiled listing_schema sql) else compiled schema sql)
     go true = listed_bare (compiled listing_schema sql) (compiled_bare listing_schema sql is)
     go false = compiled_bare schema sql is
-

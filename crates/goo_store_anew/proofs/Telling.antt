@@ -1,5 +1,5 @@
 -- What a question shows is what the database answers, and it changes nothing.
-use Rattle.std.proofs.Common.{◌≡◌, ◌⊎◌, inl, inr, ◌<◌, ℕ, zero, suc, true, List, [], ◌∷◌, length, get_or, Option, None, Some, Ok, Err, Result, IfOk, IfErr, OnOk, IsTrue, refl, sym, subst, arith}
+use Rattle.std.proofs.Common.{◌≡◌, ◌⊎◌, inl, inr, ◌<◌, ℕ, zero, suc, true, List, [], ◌∷◌, length, get_or, Ok, Err, Result, IfOk, IfErr, OnOk, IsTrue, refl, subst, arith}
 use Rattle.std.specs.Prelude.{Vec}
 use Rattle.std.specs.declared.alloc.Global.{Global}
 use Rattle.std.specs.List.{AllByRecursion}

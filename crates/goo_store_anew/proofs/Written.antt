@@ -1,5 +1,5 @@
 -- What a transaction that wrote tables anew leaves.
-use Rattle.std.proofs.Common.{◌≡◌, ◌∙◌, inl, inr, true, IsTrue, List, sym, subst, arith}
+use Rattle.std.proofs.Common.{◌≡◌, ◌∙◌, inl, inr, true, List, arith}
 use Rattle.std.specs.Prelude.{length}
 use Rattle.sqlite.specs.declared.error.Error.{Error}
 use Rattle.sqlite.specs.Steps.{FailsToCommit}
@@ -8,8 +8,6 @@ use Rattle.sqlite.specs.Held.{Held, state}
 use Rattle.sqlite.specs.State.{State, HasCleanDisk, KeepsCommit, IsRolledBack, Survives}
 use Rattle.sqlite.proofs.StateLemmas.{survives_then}
 use Rattle.sqlite.proofs.Callers.{survives_begin}
-use Rattle.goo_tables_rows.specs.Stands.{Rests, IsSettled}
-use Rattle.goo_tables_rows.proofs.Inside.{keeps_then}
 use Rattle.goo_store_anew.specs.Answered.{AreAnswers, HoldAnswers}
 use Rattle.goo_store_anew.specs.declared.answers.Answer.{Answer}
 
@@ -23,7 +21,7 @@ module _ {S : Type 0} (g : Ghosts S) (old mid new : Held S) (answers : List Answ
       (survives_begin g old (state g mid) _ inside) after
 
 -- a transaction that failed, or was undone, committed nothing
-pub undone_keeps : (a b : State) → IsRolledBack a b → KeepsCommit a b
+undone_keeps : (a b : State) → IsRolledBack a b → KeepsCommit a b
 undone_keeps a b back = record { was_open = back.was_open; committed = λ live. (back.undone live).1 }
 
 pub failed_keeps : (a b : State) (e : Error) → FailsToCommit a b e → KeepsCommit a b
@@ -33,11 +31,3 @@ failed_keeps a b e (inr ended) = record { was_open = λ _. ended.2.0.was_open; c
 -- the same from before it began
 pub begun_keeps : {S : Type 0} (g : Ghosts S) (old : Held S) (mid end : State) → KeepsCommit (state g (record old { in_transaction = true })) mid → KeepsCommit mid end → KeepsCommit (state g old) end
 begun_keeps g old mid end one two = record { was_open = λ live. one.was_open (two.was_open live); committed = λ live. two.committed live ∙ one.committed (two.was_open live) }
-
--- where nothing was committed and no transaction is left, all is as it was
-pub rests_settled : (a b : State) → IsSettled a → IsSettled b → KeepsCommit a b → Rests a b
-rests_settled a b before after keeps = record {
-  was_open = keeps.was_open;
-  now = λ live. after live ∙ keeps.committed live ∙ sym (before (keeps.was_open live));
-  committed = keeps.committed;
-}

@@ -67,11 +67,7 @@ pub fn ask_tables<S: Alter>(
 /// # Errors
 ///
 /// Those of the question.
-fn has_rows<S: Alter>(
-    tx: &mut Transaction<'_, S>,
-    at: usize,
-    rows: &[Row],
-) -> Result<bool, Error>
+fn has_rows<S: Alter>(tx: &mut Transaction<'_, S>, at: usize, rows: &[Row]) -> Result<bool, Error>
     requires { at < 16 }
     ensures same_reference { tx.new.conn.ghost_name ≡ tx.old.conn.ghost_name }
     ensures stays { HasCleanDisk (state S.Store tx.new.conn.now) → OnOk result
@@ -89,10 +85,7 @@ fn has_rows<S: Alter>(
 /// # Errors
 ///
 /// Those of the questions.
-pub fn have_rows<S: Alter>(
-    tx: &mut Transaction<'_, S>,
-    answers: &[Answer],
-) -> Result<bool, Error>
+pub fn have_rows<S: Alter>(tx: &mut Transaction<'_, S>, answers: &[Answer]) -> Result<bool, Error>
     requires { length answers.now ≤ 16 }
     ensures same_reference { tx.new.conn.ghost_name ≡ tx.old.conn.ghost_name }
     ensures same { HasCleanDisk (state S.Store tx.new.conn.now)

@@ -43,8 +43,7 @@ pub fn insertion(at: usize) -> &'static str
         2 => "INSERT INTO account VALUES (?1, ?2, ?3)",
         3 => "INSERT INTO device VALUES (?1, ?2, ?3, ?4, ?5, ?6, ?7, ?8, ?9, ?10, ?11)",
         4 => "INSERT INTO declaration VALUES (?1, ?2, ?3, ?4, ?5, ?6)",
-        5 =>
-            "INSERT INTO lot VALUES (?1, ?2, ?3, ?4, ?5, ?6, ?7, ?8, ?9, ?10, ?11, ?12, ?13, ?14)",
+        5 => "INSERT INTO lot VALUES (?1, ?2, ?3, ?4, ?5, ?6, ?7, ?8, ?9, ?10, ?11, ?12, ?13, ?14)",
         6 => "INSERT INTO piece VALUES (?1, ?2, ?3, ?4, ?5, ?6)",
         7 => "INSERT INTO peer VALUES (?1)",
         8 => "INSERT INTO receipt VALUES (?1, ?2, ?3, ?4, ?5, ?6, ?7)",

@@ -1,6 +1,5 @@
 //! Tables that stand in another form than ours: adopted, or refused with their word.
 
-
 use goo_store_adoption::adopting::adopt;
 use goo_store_adoption::observer::AdoptionObserver;
 use goo_store_open::fault::OpenFault;
@@ -120,8 +119,20 @@ fn an_index_and_a_view_beside(rt: HostRuntime) {
 
 #[test]
 fn what_is_no_registry(rt: HostRuntime) {
-    is_refused(&rt, rt.alloc(), &["CREATE TABLE plan (id)"], OpenFault::NotARegistry, "no meta");
-    is_refused(&rt, rt.alloc(), &[UNTYPED], OpenFault::NotARegistry, "no row of meta");
+    is_refused(
+        &rt,
+        rt.alloc(),
+        &["CREATE TABLE plan (id)"],
+        OpenFault::NotARegistry,
+        "no meta",
+    );
+    is_refused(
+        &rt,
+        rt.alloc(),
+        &[UNTYPED],
+        OpenFault::NotARegistry,
+        "no row of meta",
+    );
     is_refused(
         &rt,
         rt.alloc(),

@@ -1,4 +1,4 @@
-use Rattle.std.proofs.Common.{◌≡◌, ◌≤◌, length, arith, subst, rules}
+use Rattle.std.proofs.Common.{◌≡◌, arith, subst, rules}
 use Rattle.goo_store_adoption.specs.Judged.{IsRegistry}
 use Rattle.goo_store_adoption.proofs.adopting.keep_tables.Goals as goal
 

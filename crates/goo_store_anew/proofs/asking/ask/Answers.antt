@@ -1,8 +1,6 @@
-use Rattle.std.proofs.Common.{◌≡◌, [], get_or, rules, subst, sym}
+use Rattle.std.proofs.Common.{[], get_or, rules}
 use Rattle.sqlite.specs.Held.{state}
-use Rattle.sqlite.specs.Listing.{understood}
 use Rattle.goo_store_anew.specs.Questions.{question_texts}
-use Rattle.goo_store_anew.proofs.Selecting.{IsBare}
 use Rattle.goo_store_anew.proofs.Telling.{question_bare, told, opens, rests, commits_nothing}
 use Rattle.goo_store_anew.proofs.asking.ask.Goals as goal
 

@@ -1,9 +1,8 @@
-use Rattle.std.proofs.Common.{◌≡◌, ◌∙◌, ◌<◌, ◌+◌, ◌++◌, ◌∷◌, [], length, get_or, List, inl, inr, refl, arith, rules, subst, sym, ap}
+use Rattle.std.proofs.Common.{◌≡◌, ◌∙◌, ◌+◌, ◌++◌, ◌∷◌, [], length, List, inl, inr, arith, rules, subst, sym}
 use Rattle.sqlite.specs.Held.{state}
 use Rattle.sqlite.specs.State.{HasCleanDisk}
 use Rattle.sqlite.specs.Effect.{Database}
 use Rattle.goo_tables_rows.proofs.Inside.{stays, survives_both}
-use Rattle.goo_tables_rows.specs.Stands.{Rests, IsSettled}
 use Rattle.goo_store_anew.specs.declared.answers.Answer.{Answer}
 use Rattle.goo_store_anew.specs.Answered.{Shows, rows_at}
 use Rattle.goo_store_anew.proofs.Rows.{below, rows_before, rows_last}

@@ -1,4 +1,4 @@
-use Rattle.std.proofs.Common.{◌≡◌, inl, inr, arith, rules, ap, ◌∙◌, subst, sym}
+use Rattle.std.proofs.Common.{◌≡◌, inl, inr, arith, rules, subst, sym}
 use Rattle.sqlite.specs.Order.{column}
 use Rattle.goo_store_anew.proofs.Rows.{below, same_row}
 use Rattle.goo_store_anew.proofs.same.is_same_row.Goals as goal
