@@ -244,7 +244,8 @@ class House:
         self.add(name, lambda: [*self.unit(unit), '--bind', f'unix:{path}'],
                  lambda _: client.is_open(path),
                  PYTHONPATH=str(self.service), GOO_RECORDS=str(self.book),
-                 GOO_EXCHANGE=str(self.book / 'exchange.json'))
+                 GOO_EXCHANGE=str(self.book / 'exchange.json'),
+                 GOO_ETC=str(self.folder / 'etc'))
 
     def add(self, name: str, words: Any, is_there: Any, **environment: str) -> None:
         self.parts[name] = Part(name, words, is_there, self.folder, self.guard, environment)

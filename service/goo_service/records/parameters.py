@@ -28,10 +28,10 @@ PARAMETERS: dict[str, tuple[str, ...]] = {
     'acts/NUMBER': (),
     'certificates/NUMBER': (),
     'cancellations/NUMBER': (),
-    'documents': ('numbers',),
+    'documents': ('numbers', 'lang'),
     'status': (),
     'openapi.yaml': (),
-    'verify': ('number', 'code'),
+    'verify': ('number', 'code', 'lang'),
 }
 FORMATS = ('csv', 'json')
 
