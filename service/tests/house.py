@@ -46,6 +46,8 @@ ISSUER = 'ISSUER'
 MORE_USERS = ('audit ISSUER reads', 'meter ISSUER declares')
 PARTS = ('registry', 'log', 'records', 'web', 'verify', 'nginx')
 """In the order in which they are started."""
+BODY, BODY_ADDRESS = 'Umweltamt Beispielstadt', 'Wörlitzer Platz 1, 06844 Dessau'
+"""The issuing body, as its documents name it."""
 RATE = 1000
 """Requests a second by the limits of the front door, unless a house has them as shipped."""
 
@@ -220,6 +222,8 @@ class House:
             self.door.exchange.mkdir()
             self.door.lay_nginx()
             self.port, self.plain = self.door.port, self.door.plain
+            own = f'name = {BODY}\naddress = {BODY_ADDRESS}\nsite = https://localhost:{self.port}\n'
+            (self.door.etc / 'body.conf').write_text(f'[body]\n{own}', encoding='utf-8')
         for name in ('desk.sock', 'sign-in.sock'):
             (self.folder / name).unlink(missing_ok=True)
 
