@@ -55,7 +55,7 @@ const tableOf = (rows) => [HEADER, ...rows.map((fields) => fields.join())].join(
 /** What is doubtful about a file that has no fault, above its rows. */
 function asDoubted({file, rows}) {
   if (!file.length && !rows.size) return null;
-  return result({kept: true, title: rows.size ? t`${rowsOf(rows.size)} to be looked at before they are sent` : t`To be looked at before it is sent`, sentence: file.join(' ')});
+  return result({kept: true, title: rows.size ? t`To be looked at before it is sent: ${rowsOf(rows.size)}` : t`To be looked at before it is sent`, sentence: file.join(' ')});
 }
 
 /** A file with rows at fault: nothing of it is sent. */
