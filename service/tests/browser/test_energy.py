@@ -1,4 +1,4 @@
-"""Energy that is not plausible is asked about before declarations are sent; who has not declared."""
+"""What is not plausible of energy is asked about before it is sent; who has not declared."""
 from browser import stage
 from browser.conftest import Visit
 from house import House
