@@ -184,15 +184,20 @@ def restore(plan: Plan) -> None:
 
 
 def reopen(unsettled: bool) -> None:
-    """Opens the front door and starts the timers, unless the exchange is not settled."""
+    """Opens the front door and starts the timers, unless the exchange is not settled.
+
+    The timers wait for the log: a date that is sent before it takes requests would fail.
+    """
     if (host.EXCHANGE / 'restored.json').exists() and not unsettled:
         raise contents.Unfit('the exchange is not settled yet: systemctl start goo-exchange, and '
                              'see what it says. --open --unsettled opens all the same; '
                              'certificates may then have two homes')
     host.open_door()
-    timers = [timer for timer in host.TIMERS if host.is_enabled(timer)]
-    host.systemctl('start', host.REGISTRY_UNIT, host.REPLICA, *timers)
-    show('the front door is open, and the timers run')
+    host.systemctl('start', host.REGISTRY_UNIT, host.REPLICA)
+    show(f'the front door is open: {host.wait_for_log()}')
+    if timers := [timer for timer in host.TIMERS if host.is_enabled(timer)]:
+        host.systemctl('start', *timers)
+    show('the timers run')
 
 
 def parser() -> argparse.ArgumentParser:
