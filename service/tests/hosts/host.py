@@ -24,8 +24,9 @@ Done = subprocess.CompletedProcess[str]
 
 def run(*words: object, **more: Any) -> Done:
     """A command to its end."""
-    return subprocess.run([str(word) for word in words], text=True, check=False,
-                          **{'capture_output': True, 'timeout': 300, **more})
+    how: dict[str, Any] = {'stdin': None, 'timeout': 300, **more}
+    return subprocess.run([str(word) for word in words], capture_output=True, text=True,
+                          check=False, **how)
 
 
 def shell(text: str, stdin: str = '') -> Done:
