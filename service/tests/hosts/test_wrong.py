@@ -220,15 +220,11 @@ def test_the_log_is_damaged() -> None:
 
 
 def test_a_host_is_lost_but_for_log_archive_and_the_last_copy() -> None:
-    """And the beginning of the records."""
+    """The beginning of the records is in the copy."""
     assert outcome_inside('lost') == 'accepted'
     run('systemctl', 'stop', *DOOR, 'goo-records')
-    first = RECORDS / 'first'
-    run('cp', '--archive', first, '/root/first')
     for path in (REGISTRY, RECORDS, LOG / 'place', LOG / 'sent'):
         shutil.rmtree(path) if path.is_dir() else path.unlink(missing_ok=True)
-    run('install', '-d', '-o', 'goo-records', '-g', 'goo-records', '-m', '750', RECORDS)
-    run('cp', '--archive', '/root/first', first)
     done, again = shell('goo-copies restore last'), run('goo-setup', stdin=subprocess.DEVNULL)
     assert [done.returncode, again.returncode] == [0, 0], (done, again)
     assert is_well() and outcome_inside('lost') == 'repeated'
