@@ -28,10 +28,12 @@ collect_ignore = [] if os.environ.get('GOO_ON_HOST') else ['hosts']
 
 def pytest_addoption(parser: pytest.Parser) -> None:
     parser.addoption('--slow', action='store_true', help='runs the tests of minutes too')
+    parser.addoption('--pictures', metavar='FOLDER', help='keeps pictures of the page there')
 
 
 def pytest_configure(config: pytest.Config) -> None:
     config.addinivalue_line('markers', 'slow: takes a minute and more')
+    config.addinivalue_line('markers', 'thorough: of the page, and left out by --quick')
 
 
 def pytest_collection_modifyitems(config: pytest.Config, items: list[pytest.Item]) -> None:
