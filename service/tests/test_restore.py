@@ -1,4 +1,4 @@
-"""What `goo-copies restore` does beside the registry's files: the door, and the book's beginning."""
+"""`goo-copies restore` beside the registry's files: the door, and the book's beginning."""
 import os
 import shutil
 from pathlib import Path
