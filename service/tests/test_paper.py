@@ -146,7 +146,8 @@ def test_a_name_that_deceives_is_told() -> None:
         'first': 1, 'last': 2, 'count': 2, 'first_day': '2025-01-01', 'last_day': '2025-01-31',
         'carrier': 'gas', 'capacity_w': 1500, 'commissioned': '2020-01-01', 'support': 'both',
         'issued_on': '2025-02-01', 'origin': 9}
-    of = {'number': 3, 'registry': 7, 'day': '2025-04-05', 'account': 1, 'holder': 'SUN',
+    of: dict[str, Any] = {
+        'number': 3, 'registry': 7, 'day': '2025-04-05', 'account': 1, 'holder': 'SUN',
           'name': 'Sun', 'beneficiary': 'Rat\u202ehaus', 'use_first': '2025-02-01',
           'use_last': '2025-02-28', 'count': 2, 'lots': [lot]}
     assert 'U+202E' in Writer('en').paper([of], '07-3-1', 'A')['notes'][0]
