@@ -148,8 +148,8 @@ def test_a_name_that_deceives_is_told() -> None:
         'issued_on': '2025-02-01', 'origin': 9}
     of: dict[str, Any] = {
         'number': 3, 'registry': 7, 'day': '2025-04-05', 'account': 1, 'holder': 'SUN',
-          'name': 'Sun', 'beneficiary': 'Rat\u202ehaus', 'use_first': '2025-02-01',
-          'use_last': '2025-02-28', 'count': 2, 'lots': [lot]}
+        'name': 'Sun', 'beneficiary': 'Rat\u202ehaus', 'use_first': '2025-02-01',
+        'use_last': '2025-02-28', 'count': 2, 'lots': [lot]}
     assert 'U+202E' in Writer('en').paper([of], '07-3-1', 'A')['notes'][0]
     honest = {**of, 'beneficiary': 'Rathaus'}
     assert Writer('en').paper([honest], '07-3-1', 'A')['notes'] == []
