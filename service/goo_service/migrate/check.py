@@ -69,7 +69,8 @@ class Judge:
         for table in COLUMNS:
             if tables.is_there(self.folder, table):
                 self.read_table(table, judged[table])
-        self.database.executescript(work.INDEXES)
+        for index in work.INDEXES:
+            self.database.execute(index)
         for fault in lots.faults(self.database):
             self.tell(fault)
 

@@ -27,26 +27,22 @@ CREATE TABLE document (row INTEGER PRIMARY KEY, file TEXT UNIQUE, holder TEXT, a
 '''
 """`counted` is the number that the digits of the first old certificate of a range state, in a
 series of old numbers; `first` is the new number, once it is known."""
-INDEXES = '''
-CREATE INDEX stock_by_number ON stock (series, counted);
-CREATE INDEX stock_by_lot ON stock (device, first_day);
-'''
-LEFT = '''
-CREATE TABLE left_out (source TEXT, row INTEGER, PRIMARY KEY (source, row)) WITHOUT ROWID;
-INSERT OR IGNORE INTO left_out SELECT source, row FROM fault WHERE waived AND leaves_out;
-INSERT OR IGNORE INTO left_out SELECT 'accounts', row FROM account WHERE holder NOT IN
-    (SELECT old FROM kept_holder);
-INSERT OR IGNORE INTO left_out SELECT 'devices', row FROM device WHERE account NOT IN
-    (SELECT old FROM kept_account);
-INSERT OR IGNORE INTO left_out SELECT 'stock', row FROM stock WHERE account NOT IN
-    (SELECT old FROM kept_account) OR device NOT IN (SELECT gsrn FROM kept_device);
-INSERT OR IGNORE INTO left_out SELECT 'carried', row FROM carried WHERE device NOT IN
-    (SELECT gsrn FROM kept_device);
-'''
-"""The rows that stay behind: those at fault, and what belongs to them."""
+INDEXES = ('CREATE INDEX stock_by_number ON stock (series, counted)',
+           'CREATE INDEX stock_by_lot ON stock (device, first_day)')
+LEFT_OUT = ('CREATE TABLE left_out (source TEXT, row INTEGER, PRIMARY KEY (source, row)) '
+            'WITHOUT ROWID')
+LEAVE_OUT = tuple(f'INSERT OR IGNORE INTO left_out SELECT {rows}' for rows in (
+    'source, row FROM fault WHERE waived AND leaves_out',
+    "'accounts', row FROM account WHERE holder NOT IN (SELECT old FROM kept_holder)",
+    "'documents', row FROM document WHERE holder NOT IN (SELECT old FROM kept_holder)",
+    "'devices', row FROM device WHERE account NOT IN (SELECT old FROM kept_account)",
+    "'stock', row FROM stock WHERE account NOT IN (SELECT old FROM kept_account) "
+    "OR device NOT IN (SELECT gsrn FROM kept_device)",
+    "'carried', row FROM carried WHERE device NOT IN (SELECT gsrn FROM kept_device)"))
+"""The rows that stay behind: those at fault, and then what belongs to them."""
 KEPT = '''
 CREATE VIEW kept_{one} AS SELECT * FROM {one} WHERE NOT EXISTS
-    (SELECT 1 FROM left_out AS l WHERE l.source = '{table}' AND l.row = {one}.row);
+    (SELECT 1 FROM left_out AS l WHERE l.source = '{table}' AND l.row = {one}.row)
 '''
 TABLES = {'holder': 'holders', 'account': 'accounts', 'device': 'devices', 'stock': 'stock',
           'carried': 'carried', 'document': 'documents'}
@@ -85,13 +81,9 @@ def opened(folder: Path, writes: bool = False) -> Iterator[sqlite3.Connection]:
 
 def settle(database: sqlite3.Connection) -> None:
     """Once all is read: which rows stay behind, and which are kept."""
-    create_left = LEFT.strip().split(';\n')
-    database.execute(create_left[0])
-    for one, table in TABLES.items():
-        database.execute(KEPT.format(one=one, table=table))
-    for statement in create_left[1:]:
-        if statement.strip():
-            database.execute(statement.rstrip(';'))
+    views = [KEPT.format(one=one, table=table) for one, table in TABLES.items()]
+    for statement in (LEFT_OUT, *views, *LEAVE_OUT):
+        database.execute(statement)
 
 
 def note(database: sqlite3.Connection, name: str, value: str) -> None:
