@@ -70,7 +70,8 @@ def number(serial: int) -> str:
 
 def month(count: int) -> tuple[str, str, str]:
     """First and last day of a month, and the day on which its certificates are issued."""
-    year, of = FIRST_MONTH[0] + (FIRST_MONTH[1] - 1 + count) // 12, (FIRST_MONTH[1] - 1 + count) % 12
+    years, of = divmod(FIRST_MONTH[1] - 1 + count, 12)
+    year = FIRST_MONTH[0] + years
     last = calendar.monthrange(year, of + 1)[1]
     after = (year + (of + 1) // 12, (of + 1) % 12 + 1)
     return f'{year}-{of + 1:02}-01', f'{year}-{of + 1:02}-{last}', f'{after[0]}-{after[1]:02}-10'

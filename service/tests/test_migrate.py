@@ -1,4 +1,4 @@
-"""An old registry is brought over: its tables are judged, and nothing of them is lost or changed."""
+"""An old registry is brought over: its tables are judged, and nothing is lost or changed."""
 import json
 import os
 import random
@@ -244,7 +244,7 @@ def test_the_result_passes_a_recount(rehearsed: Path, tmp_path: Path) -> None:
      'ORDER BY first LIMIT 1)', 'in the registry, and not so in the tables'),
     ("UPDATE lot SET site = 'Elsewhere' WHERE id = 1", 'Elsewhere'),
     ("UPDATE holder SET name = 'Nobody' WHERE code = 'H00001'", 'Nobody'),
-    ("UPDATE device SET capacity_w = 7 WHERE gsrn = (SELECT min(gsrn) FROM device)", 'devices'),
+    ('UPDATE device SET capacity_w = 7 WHERE gsrn = (SELECT min(gsrn) FROM device)', 'devices'),
     ('DELETE FROM piece WHERE first = (SELECT max(first) FROM piece)', 'in the tables, and not'),
     ("UPDATE account SET holder = 'H00001' WHERE number = 1", 'accounts 1')])
 def test_a_difference_in_the_result_is_told(rehearsed: Path, tmp_path: Path, change: str,

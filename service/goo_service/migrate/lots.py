@@ -8,6 +8,19 @@ from goo_service.migrate.settings import Settings
 from goo_service.migrate.tables import Row
 
 STOCK = 'stock'
+ROWS_BY_LOT = '''
+SELECT row, device, first_day, last_day, issued_on FROM stock WHERE first_day != ''
+ORDER BY device, first_day, row
+'''
+PERIODS = '''
+SELECT min(row), device, first_day, max(last_day) FROM stock
+WHERE first_day != '' AND last_day != '' GROUP BY device, first_day ORDER BY device, first_day
+'''
+LOT_SUMS = '''
+SELECT min(s.row), s.first_day, max(s.last_day), sum(s.count), d.capacity_w
+FROM stock AS s JOIN device AS d ON d.gsrn = s.device
+WHERE s.first_day != '' AND d.capacity_w > 0 GROUP BY s.device, s.first_day
+'''
 
 
 def row_faults(row: Row, days: dict[str, str], commissioned: str,
@@ -52,9 +65,7 @@ def overlaps(database: sqlite3.Connection) -> Iterator[Fault]:
 def differing(database: sqlite3.Connection) -> Iterator[Fault]:
     """Rows that state another last day, or day of issue, than the first row of their lot."""
     lot, stated, at = ('', ''), ('', ''), 0
-    for row, device, first_day, last_day, issued_on in database.execute(
-            "SELECT row, device, first_day, last_day, issued_on FROM stock "
-            "WHERE first_day != '' ORDER BY device, first_day, row"):
+    for row, device, first_day, last_day, issued_on in database.execute(ROWS_BY_LOT):
         if (device, first_day) != lot:
             lot, stated, at = (device, first_day), (last_day, issued_on), row
         elif (last_day, issued_on) != stated:
@@ -66,10 +77,7 @@ def differing(database: sqlite3.Connection) -> Iterator[Fault]:
 def shared_days(database: sqlite3.Connection) -> Iterator[Fault]:
     """Lots that begin before an earlier lot of their device has ended; the first row of each."""
     device, end, at = '', '', 0
-    for row, its, first_day, last_day in database.execute(
-            "SELECT min(row), device, first_day, max(last_day) FROM stock "
-            "WHERE first_day != '' AND last_day != '' GROUP BY device, first_day "
-            "ORDER BY device, first_day"):
+    for row, its, first_day, last_day in database.execute(PERIODS):
         if its != device:
             device, end = its, ''
         if first_day <= end:
@@ -81,11 +89,7 @@ def shared_days(database: sqlite3.Connection) -> Iterator[Fault]:
 
 def too_many(database: sqlite3.Connection) -> Iterator[Fault]:
     """Lots of more energy than their device can make in their hours; the first row of each."""
-    for row, first_day, last_day, count, watts in database.execute(
-            "SELECT min(s.row), s.first_day, max(s.last_day), sum(s.count), d.capacity_w "
-            "FROM stock AS s JOIN device AS d ON d.gsrn = s.device "
-            "WHERE s.first_day != '' AND d.capacity_w > 0 "
-            "GROUP BY s.device, s.first_day"):
+    for row, first_day, last_day, count, watts in database.execute(LOT_SUMS):
         if last_day < first_day:
             continue
         most = watts * rules.hours(first_day, last_day)

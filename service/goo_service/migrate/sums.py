@@ -34,6 +34,11 @@ SELECT p.first, p.last, p.account, l.device, l.country, l.site, l.tech, l.source
 FROM piece AS p JOIN lot AS l ON l.id = p.lot LEFT JOIN lot_carrier AS c ON c.lot = l.id
 WHERE p.first BETWEEN ? AND ? AND p.kind = 1 ORDER BY p.first
 '''
+REGISTERED = '''
+SELECT d.gsrn, d.account, d.country, d.site, d.tech, d.source, d.capacity_w, d.commissioned,
+       d.support, coalesce(c.carrier, 'electricity')
+FROM device AS d LEFT JOIN device_carrier AS c ON c.gsrn = d.gsrn ORDER BY d.gsrn
+'''
 LISTS = {
     'holders': ('SELECT code, name FROM kept_holder ORDER BY code',
                 'SELECT code, name FROM holder ORDER BY code'),
@@ -43,9 +48,7 @@ LISTS = {
     'devices': ('SELECT d.gsrn, a.number, d.country, d.site, d.tech, d.source, d.capacity_w, '
                 'd.commissioned, d.support, d.carrier FROM kept_device AS d '
                 'JOIN kept_account AS a ON a.old = d.account ORDER BY d.gsrn',
-                "SELECT d.gsrn, d.account, d.country, d.site, d.tech, d.source, d.capacity_w, "
-                "d.commissioned, d.support, coalesce(c.carrier, 'electricity') FROM device AS d "
-                "LEFT JOIN device_carrier AS c ON c.gsrn = d.gsrn ORDER BY d.gsrn"),
+                REGISTERED),
 }
 """What is compared row by row: the query over the tables, and the one over the registry."""
 Run = tuple[Any, ...]

@@ -36,8 +36,8 @@ LEAVE_OUT = tuple(f'INSERT OR IGNORE INTO left_out SELECT {rows}' for rows in (
     "'accounts', row FROM account WHERE holder NOT IN (SELECT old FROM kept_holder)",
     "'documents', row FROM document WHERE holder NOT IN (SELECT old FROM kept_holder)",
     "'devices', row FROM device WHERE account NOT IN (SELECT old FROM kept_account)",
-    "'stock', row FROM stock WHERE account NOT IN (SELECT old FROM kept_account) "
-    "OR device NOT IN (SELECT gsrn FROM kept_device)",
+    "'stock', row FROM stock WHERE account NOT IN (SELECT old FROM kept_account)",
+    "'stock', row FROM stock WHERE device NOT IN (SELECT gsrn FROM kept_device)",
     "'carried', row FROM carried WHERE device NOT IN (SELECT gsrn FROM kept_device)"))
 """The rows that stay behind: those at fault, and then what belongs to them."""
 KEPT = '''
