@@ -127,6 +127,17 @@ def test_a_table_that_can_not_be_read_is_no_waiver(folder: Path, name: str, text
         checked(folder, f'waive = ["{name}"]\n{old_registry.SETTINGS}')
 
 
+@pytest.mark.parametrize(('last_day', 'is_over'), [('2023-09-01', False), ('2023-08-31', True)])
+def test_the_last_day_on_which_certificates_are_held(folder: Path, last_day: str,
+                                                     is_over: bool) -> None:
+    """Eighteen months after the period, that day included: on 2025-03-01 of one, not of both."""
+    with (folder / 'tables/stock.csv').open('a', encoding='utf-8') as file:
+        file.write(f'{old_registry.number(5000)},{old_registry.number(5001)},'
+                   f'{old_registry.gsrn(1)},{last_day},{last_day},2023-09-10,A-1\n')
+    checked(folder)
+    assert ('deadline stock 97' in names_in(folder)) == is_over
+
+
 def test_a_missing_table_is_named(folder: Path) -> None:
     (folder / 'tables/devices.csv').unlink()
     checked(folder)
