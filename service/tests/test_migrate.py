@@ -35,8 +35,10 @@ from goo_service.migrate.settings import Settings
 from goo_service.migrate.sums import compare
 from house import House
 from house import SERVICE
+from mutations import gsrn
 from service_commands import command
 
+NAMES = [planted.name for planted in old_registry.PLANTED]
 GOO = str(Path(loopback.program()).resolve())
 ASSIGNED = old_registry.SETTINGS + '[numbers]\nform = "assigned"\npattern = "08([0-9]{12})"\n'
 
@@ -86,7 +88,7 @@ def test_tables_without_a_fault_have_none(folder: Path) -> None:
     assert found.rows == {'holders': 6, 'accounts': 8, 'devices': 8, 'stock': 96, 'carried': 8}
 
 
-@pytest.mark.parametrize('planted', old_registry.PLANTED, ids=lambda planted: planted.name)
+@pytest.mark.parametrize('planted', old_registry.PLANTED, ids=NAMES)
 def test_a_fault_is_told_by_its_name(folder: Path, planted: old_registry.Planted) -> None:
     tables = old_registry.read_tables(folder)
     planted.plant(tables)
@@ -99,7 +101,7 @@ def test_a_fault_is_told_by_its_name(folder: Path, planted: old_registry.Planted
         plan.write(folder, read)
 
 
-@pytest.mark.parametrize('planted', old_registry.PLANTED, ids=lambda planted: planted.name)
+@pytest.mark.parametrize('planted', old_registry.PLANTED, ids=NAMES)
 def test_a_waived_fault_leaves_the_rest_to_come_over(folder: Path,
                                                      planted: old_registry.Planted) -> None:
     tables = old_registry.read_tables(folder)
@@ -133,7 +135,7 @@ def test_the_last_day_on_which_certificates_are_held(folder: Path, last_day: str
     """Eighteen months after the period, that day included: on 2025-03-01 of one, not of both."""
     with (folder / 'tables/stock.csv').open('a', encoding='utf-8') as file:
         file.write(f'{old_registry.number(5000)},{old_registry.number(5001)},'
-                   f'{old_registry.gsrn(1)},{last_day},{last_day},2023-09-10,A-1\n')
+                   f'{gsrn(1)},{last_day},{last_day},2023-09-10,A-1\n')
     checked(folder)
     assert ('deadline stock 97' in names_in(folder)) == is_over
 

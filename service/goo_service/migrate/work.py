@@ -28,7 +28,11 @@ CREATE TABLE document (row INTEGER PRIMARY KEY, file TEXT UNIQUE, holder TEXT, a
 """`counted` is the number that the digits of the first old certificate of a range state, in a
 series of old numbers; `first` is the new number, once it is known."""
 INDEXES = ('CREATE INDEX stock_by_number ON stock (series, counted)',
-           'CREATE INDEX stock_by_lot ON stock (device, first_day)')
+           'CREATE INDEX stock_by_lot ON stock (device, first_day)',
+           'CREATE INDEX stock_by_account ON stock (account, first)',
+           'CREATE INDEX stock_by_new_number ON stock (first)',
+           'CREATE INDEX device_by_account ON device (account)',
+           'CREATE INDEX account_by_holder ON account (holder)')
 LEFT_OUT = ('CREATE TABLE left_out (source TEXT, row INTEGER, PRIMARY KEY (source, row)) '
             'WITHOUT ROWID')
 LEAVE_OUT = tuple(f'INSERT OR IGNORE INTO left_out SELECT {rows}' for rows in (
