@@ -25,6 +25,11 @@ THERE = {'account': '1', 'count': '3', 'numbers': '1', 'number': '1'}
 """Parameters that an operation needs, of what is there."""
 TABLES = {'doubts': HEADER + b'k1,%b,2026-07-01,2026-07-31,5,0\n' % DEVICE.encode()}
 """What an operation is sent that takes a table."""
+PUBLIC = '''-----BEGIN PUBLIC KEY-----
+MCowBQYDK2VwAyEAGb9ECWmEzf6FQbrBZ9w7lshQhqowtrbLDFw4rXAxZuE=
+-----END PUBLIC KEY-----
+'''
+"""That of RFC 8410, section 10.1."""
 QUICK = settings(max_examples=40, derandomize=True, suppress_health_check=list(HealthCheck))
 
 
@@ -51,6 +56,8 @@ def fill(made: Made) -> None:
     made.take(made.record('VOLT', '/v1/requests', b'{"command":"transfer","giver":0,"taker":99}',
                           403, b'Forbidden\n', role='reads'))
     made.must(ISSUER, 'advance', day='2026-08-01')
+    (made.folder / 'etc').mkdir()
+    (made.folder / 'etc/documents.pub').write_text(PUBLIC)
 
 
 @pytest.fixture(scope='module')
@@ -110,7 +117,8 @@ def test_answers_are_as_they_are_described(made: Made, known: dict[str, list[str
     ask_anything()
 
 
-LISTS = [of for of in RECORDS.operations if 'format' in RECORDS.parameters(of, 'query')]
+LISTS = [of for of in RECORDS.operations if 'limit' in RECORDS.parameters(of, 'query')
+         or of.name == 'choose']
 
 
 @pytest.mark.parametrize('operation', LISTS, ids=[of.name for of in LISTS])

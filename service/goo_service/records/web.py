@@ -27,6 +27,7 @@ from flask import request
 
 from goo_service.common.rules import ISSUER
 from goo_service.common.rules import PLACES
+from goo_service.exchange.signature import Key
 from goo_service.log.bounds import BODY
 from goo_service.records import acts
 from goo_service.records import certificates
@@ -39,6 +40,9 @@ from goo_service.records.files import csv_of
 from goo_service.records.files import presented
 from goo_service.records.paper import Writer
 from goo_service.records.parameters import parameters_of
+from goo_service.records.pdf import NotInstalled
+from goo_service.records.pdf import NotRendered
+from goo_service.records.pdf import pdfs
 from goo_service.records.questions import BadQuestion
 from goo_service.records.questions import Given
 from goo_service.records.questions import Listed
@@ -49,6 +53,8 @@ from goo_service.records.questions import Viewer
 from goo_service.records.questions import standing
 from goo_service.records.schema import Mismatch
 from goo_service.records.schema import read_moment
+from goo_service.records.seal import read_public
+from goo_service.records.seal import sealed
 
 FOLDER = Path('/var/lib/goo-records')
 EXCHANGE = FOLDER / 'exchange.json'
@@ -62,7 +68,7 @@ STEPS = 10_000
 BUSY = {'Retry-After': '10'}
 KEY = 64
 """Bytes of the key of check codes."""
-STATUSES = {BadQuestion: 400, NotFound: 404, TooFew: 409}
+STATUSES = {BadQuestion: 400, NotFound: 404, TooFew: 409, NotInstalled: 501}
 FateKey = tuple[int, int, int]
 """A notice: 1 where it was sent and 0 where it came, the other registry, its number."""
 
@@ -88,7 +94,7 @@ class Busy(Exception):
     """As many files as may be are being written."""
 
 
-FAULTS = (TooLong, Busy, OSError, sqlite3.DatabaseError, *STATUSES)
+FAULTS = (TooLong, Busy, NotRendered, OSError, sqlite3.DatabaseError, *STATUSES)
 """What an answer can come to instead."""
 
 
@@ -113,7 +119,7 @@ class Timed(sqlite3.Connection):
 
 ListOf = Callable[[sqlite3.Connection, Viewer, Given], Listed]
 OneOf = Callable[[sqlite3.Connection, Viewer, int], Row]
-OtherOf = Callable[[sqlite3.Connection, Viewer, Given], Row]
+OtherOf = Callable[[sqlite3.Connection, Viewer, Given], Row | Response]
 PostedOf = Callable[[sqlite3.Connection, Viewer, Given, bytes], Row]
 Answer = Response | Listed | Row
 
@@ -143,6 +149,7 @@ class Service:
                  etc: Path = ETC) -> None:
         self.folder, self.exchange, self.etc, self.limits = folder, exchange, etc, limits
         self.files = threading.BoundedSemaphore(limits.files)
+        self.papers = threading.BoundedSemaphore(1)
         self.lists: dict[str, ListOf] = {
             'acts': acts.acts, 'holdings': certificates.holdings,
             'deadlines': certificates.deadlines, 'choice': certificates.choice,
@@ -164,7 +171,9 @@ class Service:
                  if path.exists()]
         if not paths:
             raise OSError(f'{self.folder}/code.key is not there')
-        return documents.Maker(tuple(map(read_key, paths)), self.writer)
+        public = self.etc / 'documents.pub'
+        return documents.Maker(tuple(map(read_key, paths)), self.writer,
+                               public_in(public) if public.exists() else '')
 
     def writer(self, language: str) -> Writer:
         """Who writes documents, by what the issuing body says of itself at the moment."""
@@ -192,7 +201,7 @@ class Service:
                     answer: Callable[[sqlite3.Connection, Given], Answer]) -> Response:
         """The answer of a route, or the error that it came to. Its book is closed once it is
         sent."""
-        is_file = request.args.get('format') == 'csv'
+        is_file = request.args.get('format') in ('csv', 'pdf')
         seconds = self.limits.file if is_file else self.limits.question
         try:
             given = parameters_of(name, request.args)
@@ -218,6 +227,8 @@ class Service:
         if isinstance(error, Busy):
             text = 'other files are being written: ask again in some seconds'
             return reply(503, {'error': text}, **BUSY)
+        if isinstance(error, NotRendered):
+            return reply(503, {'error': str(error)}, **BUSY)
         if is_late:
             text = (f'the answer takes longer than {seconds:g} s: ask for less, for example for '
                     'one account, one kind of act or some days')
@@ -281,19 +292,72 @@ class Service:
     def cancellation(self, database: sqlite3.Connection, viewer: Viewer, number: int) -> Row:
         return documents.shown_document(database, viewer, number, self.maker.keys[0])
 
-    def documents(self, database: sqlite3.Connection, viewer: Viewer, given: Given) -> Row:
-        return documents.shown_documents(database, viewer, given, self.maker)
+    def documents(self, database: sqlite3.Connection, viewer: Viewer,
+                  given: Given) -> Row | Response:
+        """A document, as data or as a PDF. While a PDF is rendered, the book is not read."""
+        made = documents.shown_documents(database, viewer, given, self.maker)
+        if given.get('format') != 'pdf':
+            return made
+        database.close()
+        return self.pdf(made['paper'])
+
+    def pdf(self, paper: Row) -> Response:
+        """A document as a PDF with its seal. Each process renders one at a time, as one of its few
+        files."""
+        key = key_of_seals(self.etc)
+        if not self.papers.acquire(blocking=False):
+            raise Busy
+        try:
+            made, = self.one_of_few(pdfs([paper]))
+        finally:
+            self.papers.release()
+        name = f'document-{paper["number"].replace(",", "_")[:60]}.pdf'
+        fields = {**HEADERS, 'Content-Disposition': f'attachment; filename="{name}"'}
+        return Response(sealed(made, paper['number'], paper['code'], key), 200, fields,
+                        content_type='application/pdf')
 
     def verified(self) -> Response:
         """The public check: whether number and code belong together."""
         def answer(database: sqlite3.Connection, given: Given) -> Response:
             found = documents.verified(database, given, self.maker)
             if found is None:
-                text = 'number and code do not belong together'
+                text = ('this file is not as the registry sealed it' if given.get('seal') else
+                        'number and code do not belong together')
                 return reply(404, {'valid': False, 'error': text})
             return reply(200, {'valid': True, **found})
 
         return self.for_anybody('verify', answer)
+
+    def public_key(self) -> Response:
+        """The key by which anybody sees that a PDF is as the registry sealed it."""
+        try:
+            parameters_of('verify/key', request.args)
+        except BadQuestion as error:
+            return reply(400, {'error': str(error)})
+        path = self.etc / 'documents.pub'
+        if not path.exists():
+            return reply(404, {'error': 'this registry has no key of documents'})
+        return Response(path.read_bytes(), 200, HEADERS, content_type='application/x-pem-file')
+
+
+def key_of_seals(etc: Path) -> Key:
+    """The key that seals documents."""
+    path = etc / 'documents.key'
+    if not path.exists():
+        raise NotInstalled('this host makes no PDF: it has no key that seals documents, which '
+                           'goo-setup makes')
+    try:
+        return Key(path)
+    except ValueError as fault:
+        raise OSError(str(fault)) from fault
+
+
+def public_in(path: Path) -> str:
+    """The public key of seals."""
+    try:
+        return read_public(path)
+    except ValueError as fault:
+        raise OSError(f'{path} has no public key') from fault
 
 
 def read_key(path: Path) -> bytes:
@@ -362,13 +426,15 @@ def application(folder: Path | None = None, exchange: Path | None = None,
 
     app.get('/records/v1/openapi.yaml')(description)
     app.get('/verify')(service.verified)
-
-    @app.errorhandler(404)
-    def missing(_: Exception) -> Response:
-        return reply(404, {'error': f'there is no {request.path}'})
-
-    @app.errorhandler(405)
-    def not_allowed(_: Exception) -> Response:
-        return reply(405, {'error': 'the records are only read'})
-
+    app.get('/verify/key')(service.public_key)
+    app.register_error_handler(404, missing)
+    app.register_error_handler(405, not_allowed)
     return app
+
+
+def missing(_: Exception) -> Response:
+    return reply(404, {'error': f'there is no {request.path}'})
+
+
+def not_allowed(_: Exception) -> Response:
+    return reply(405, {'error': 'the records are only read'})
