@@ -20,9 +20,9 @@ from goo_service.records import follow
 from goo_service.records import schema
 from archives import make_archive       # it leads to service/ itself, and not to a copy of it
 from program import PROVED
-from records_trial import CODE
-from records_trial import Requests
-from records_trial import TODAY
+from acts_by_chance import CODE
+from acts_by_chance import Requests
+from acts_by_chance import TODAY
 
 GOO = os.environ.get('GOO', str(PROVED))
 SINCE = 80
