@@ -2,7 +2,7 @@
 // the account's number, and the two have to fit before anything is sent. The records say whether they do.
 
 import {known, t} from './language.js';
-import {asked, everyItem, records} from './records.js';
+import {asked, everyItem, nameAccount, records} from './records.js';
 import {Unread} from './registry.js';
 
 /** The fields of a command that say whose account it is: the account, the code, and the registry where it is another one. */
@@ -12,7 +12,7 @@ const names = new Map();
 /** Whether a field is typed to be held against another one, and is in no request. */
 export const isAside = (kind) => kind === 'partner';
 
-/** The name of a holder whose code fitted. */
+/** The name of a holder of another registry whose code fitted; one of this registry is named beside the account. */
 export const partnerName = async (code) => names.get(code) ?? '';
 
 const isOwn = async (account) => (await everyItem('accounts')).some(({number}) => number === account);
@@ -43,7 +43,8 @@ export async function partnerOf(command, by) {
   if (!code) return stop(of.holder, t`This is needed: registry ${peer} publishes its accounts.`);
   if (!fits) return stop(of.holder, t`Account ${account} is not one of ${code}. Nothing was sent.`);
   if (closed) return stop(of.account, t`Account ${account} is closed. Nothing was sent.`);
-  names.set(code, name ?? '');
+  names.set(code, peer ? name : '');
+  if (!peer && name) nameAccount(account, `${code}, ${name}`);
   return {notes: name || peer ? [] : [t`Account and code fit. The issuing body shows no names.`]};
 }
 

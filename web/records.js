@@ -113,6 +113,9 @@ export const holderOf = (account) => once(`account/${account}`, async () => {
   return found?.holder ? `${found.holder}, ${found.name}` : '';
 });
 
+/** Says whose an account is, once that is known. */
+export const nameAccount = (account, text) => names.set(`account/${account}`, text);
+
 /** The site of a device. */
 export const siteOf = (device) => once(`device/${device}`, async () => (await asked('devices', {device})).items[0]?.site ?? '');
 
