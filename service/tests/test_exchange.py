@@ -633,6 +633,7 @@ def test_accounts_that_the_records_do_not_tell_are_left(side: Side) -> None:
     nowhere = accounts.Directory.of({'publish_accounts': 'yes', 'records': 'unix:/nowhere/socket'})
     assert 'our records: no answer' in accounts.publish(nowhere, outbox, [9])[0]
     assert accounts.Directory.of({}) is None
-    for wrong in ({'publish_accounts': 'maybe'}, {'publish_accounts': 'yes', 'records': 'http://x'}):
+    for wrong in ({'publish_accounts': 'maybe'},
+                  {'publish_accounts': 'yes', 'records': 'http://x'}):
         with pytest.raises(ValueError):
             accounts.Directory.of(wrong)

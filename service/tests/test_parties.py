@@ -34,11 +34,11 @@ class Asked:
         self.app = web.application(made.folder, made.folder / 'exchange.json')
         self.client = self.app.test_client()
 
-    def get(self, name: str, caller: str = 'SUN', user: str = 'anna', **given: object) -> Any:
+    def get(self, name: str, caller: str = 'SUN', user: str = 'anna', **given: Any) -> Any:
         return self.client.get(f'/records/v1/{name}', query_string=given,
                                headers={'GOO-Caller': caller, 'GOO-User': user})
 
-    def party(self, **given: object) -> tuple[Any, Any]:
+    def party(self, **given: Any) -> tuple[Any, Any]:
         told = self.get('party', **given).get_json()
         return told['fits'], told['name']
 
@@ -145,7 +145,7 @@ def test_what_is_kept_of_users_is_bounded(monkeypatch: pytest.MonkeyPatch) -> No
     {}, {'account': 1}, {'holder': 'SUN'}, {'account': 0, 'holder': 'SUN'},
     {'account': 'x', 'holder': 'SUN'}, {'account': 1, 'holder': 'S_N'},
     {'account': 1, 'holder': 'S' * 17}, {'account': 1, 'holder': 'SUN', 'peer': 100}])
-def test_a_pair_that_cannot_be_read_is_told(shown: Asked, given: dict[str, object]) -> None:
+def test_a_pair_that_cannot_be_read_is_told(shown: Asked, given: dict[str, Any]) -> None:
     assert shown.get('party', **given).status_code == 400
 
 

@@ -60,7 +60,8 @@ STEPS = 10_000
 BUSY = {'Retry-After': '10'}
 KEY = 64
 """Bytes of the key of check codes."""
-STATUSES = {BadQuestion: 400, NotFound: 404, TooFew: 409, TooMany: 429}
+STATUSES: dict[type[Exception], int] = {
+    BadQuestion: 400, NotFound: 404, TooFew: 409, TooMany: 429}
 DIRECTORY = {'shown': True, 'hidden': False}
 """What GOO_RECORDS_DIRECTORY says: whether holders see whose accounts there are."""
 FateKey = tuple[int, int, int]
@@ -88,7 +89,8 @@ class Busy(Exception):
     """As many files as may be are being written."""
 
 
-FAULTS = (TooLong, Busy, OSError, sqlite3.DatabaseError, *STATUSES)
+FAULTS: tuple[type[Exception], ...] = (
+    TooLong, Busy, OSError, sqlite3.DatabaseError, *STATUSES)
 """What an answer can come to instead."""
 
 

@@ -10,11 +10,12 @@ usage: goo-setup [--code C] [--name HOST] [--date DAY] [--next-serial N]
        goo-setup status | doctor | renew | upgraded
 
 Without words it asks what is not given: the host's name, the certificate, the first user of the
-issuing body and a password, the registry's code and date, one host or three, whether holders see
-whose accounts there are. It makes the secrets, writes the configuration below /etc/goo, begins the registry and its log of requests,
-starts the units, and prints the address. What is there already stays as it is. So it can be run
-again after an interruption. A registry that was installed by hand goes on under the package: its
-units and programs go aside, to /var/backups/goo-by-hand.
+issuing body and a password, the registry's code and date, one host or three, whether holders
+see whose accounts there are. It makes the secrets, writes the configuration below /etc/goo,
+begins the registry and its log of requests, starts the units, and prints the address. What is
+there already stays as it is. So it can be run again after an interruption. A registry that was
+installed by hand goes on under the package: its units and programs go aside, to
+/var/backups/goo-by-hand.
 
 --hosts makes this host the first of three with one log over etcd: the addresses of all three,
 this one's first. It writes a file for each of the others, with which that host joins by --join.

@@ -5,7 +5,6 @@ import ssl
 
 from goo_service.setup.common import COPIES
 from goo_service.setup.common import DATABASE
-from goo_service.setup.common import ETC
 from goo_service.setup.common import LED
 from goo_service.setup.common import LOG
 from goo_service.setup.common import NGINX
