@@ -56,6 +56,7 @@ BY_ACCOUNT = ('devices', 'declarations', 'corrections', 'cancellations', 'notice
 LISTS: dict[str, tuple[dict[str, Any], Callable[[Row, Viewer], bool]]] = {
     'acts': ({}, touches), 'holdings': ({'by': 'run'}, by('account')),
     'deadlines': ({'days': 4000}, by('account')),
+    'directory': ({}, lambda row, viewer: True),
     'undeclared': ({'month': '2027-06'}, by('account')),
     'holders': ({}, lambda row, viewer: bool(row['code'] == viewer.code)),
     'accounts': ({}, by('number')), **{name: ({}, by('account')) for name in BY_ACCOUNT}}
@@ -163,7 +164,19 @@ def faults_of_status(service: Service, rows: Rows) -> Iterator[object]:
                 if service.answer(viewer.code, 'status').get('caller') != viewer.code)
 
 
-OTHERS = {'choice': faults_of_choice, 'documents': faults_of_documents, 'status': faults_of_status}
+def faults_of_party(service: Service, rows: Rows) -> Iterator[object]:
+    """Whether an account is a holder's is told to whoever names both."""
+    for viewer in VIEWERS:
+        for account, holder in ACCOUNTS.items():
+            asked = {'account': account, 'holder': holder}
+            if service.answer(viewer.code, 'party', **asked)['fits'] is not True:
+                yield viewer.code, asked
+        if service.answer(viewer.code, 'party', account=1, holder='VOLT')['fits'] is not False:
+            yield viewer.code, 'another holder'
+
+
+OTHERS = {'choice': faults_of_choice, 'documents': faults_of_documents, 'status': faults_of_status,
+          'party': faults_of_party}
 NOBODY: tuple[list[str], ...] = ([], ['SUN', 'SUN'], ['SUN', ISSUER], ['sun'], [''],
                                  ['SUN VOLT'], ['%'], ['A' * 17])
 """Fields of a request that do not say who asks."""
