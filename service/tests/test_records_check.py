@@ -81,7 +81,7 @@ def write_copy(folder: Path, requests: list[tuple[Any, ...]], hash_of_last: str)
 @pytest.fixture(scope='module')
 def night(tmp_path_factory: pytest.TempPathFactory) -> Night:
     folder = tmp_path_factory.mktemp('night')
-    requests = list(Requests(4).all(150))
+    requests: list[tuple[Any, ...]] = list(Requests(4).all(150))
     make_archive(GOO, folder / 'archive', requests, CODE, TODAY)
     entry = len(requests) - SINCE
     record = next(entries.read_archive(folder / 'archive', after=entry - 1))
