@@ -6,6 +6,8 @@ from typing import Any
 
 import pytest
 from goo_service.records import parameters
+from goo_service.records.attachments import Attachments
+from goo_service.records.attachments import Content
 from described import Description
 from described import Operation
 from hypothesis import HealthCheck
@@ -51,6 +53,8 @@ def fill(made: Made) -> None:
     made.take(made.record('VOLT', '/v1/requests', b'{"command":"transfer","giver":0,"taker":99}',
                           403, b'Forbidden\n', role='reads'))
     made.must(ISSUER, 'advance', day='2026-08-01')
+    old = Content('SUN', 'statement.pdf', 'of the registry before', b'%PDF-1.7')
+    Attachments(made.folder / 'attachments').add([old], None)
 
 
 @pytest.fixture(scope='module')
