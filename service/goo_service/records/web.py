@@ -404,13 +404,14 @@ def application(folder: Path | None = None, exchange: Path | None = None,
 
     app.get('/records/v1/openapi.yaml')(description)
     app.get('/verify')(service.verified)
-
-    @app.errorhandler(404)
-    def missing(_: Exception) -> Response:
-        return reply(404, {'error': f'there is no {request.path}'})
-
-    @app.errorhandler(405)
-    def not_allowed(_: Exception) -> Response:
-        return reply(405, {'error': 'the records are only read'})
-
+    app.register_error_handler(404, missing)
+    app.register_error_handler(405, not_allowed)
     return app
+
+
+def missing(_: Exception) -> Response:
+    return reply(404, {'error': f'there is no {request.path}'})
+
+
+def not_allowed(_: Exception) -> Response:
+    return reply(405, {'error': 'the records are only read'})
