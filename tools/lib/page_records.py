@@ -70,7 +70,7 @@ class WithRecords(Place):
         book, port = self.dir / 'records', free_port()
         self.begin('follow', *service_commands.command('goo-records'), 'follow', '--begun', self.code, self.day, 1, '--archive', self.dir / 'replica/archive', '--into', book)
         wait_until(lambda: (book / 'current').exists(), 'the book')
-        self.begin('web', 'gunicorn', '--bind', f'127.0.0.1:{port}', '--workers', 1, '--threads', 4, '--chdir', HOME / 'service', 'goo_service.records.web:application()', GOO_RECORDS=str(book))
+        self.begin('web', 'gunicorn', '--bind', f'127.0.0.1:{port}', '--workers', 1, '--threads', 4, '--chdir', HOME / 'service', 'goo_service.records.web:application()', GOO_RECORDS=str(book), GOO_ETC=str(self.etc))
         wait_for(port)
         self.records.target = port
 
@@ -362,7 +362,7 @@ class Seen:
         b.press('nav button', 'Deutsch')
         b.see('h1', 'Ihre Konten')
         check('the switch turns the page to German, with its numbers', f'{self.held(1):,}'.replace(',', '.') in b.text('table') and b.d.execute_script('return document.documentElement.lang') == 'de')
-        self.german_pages({'holdings/1': 'Bestand', 'deadlines': 'Fristen', 'history': 'Verlauf', 'act/1': 'Vorgang 1', **{f'lists/{name}': '' for name in LISTS}, 'document/1': 'Entwertung 1', 'account/1': 'Konto',
+        self.german_pages({'holdings/1': 'Bestand', 'deadlines': 'Fristen', 'history': 'Verlauf', 'act/1': 'Vorgang 1', **{f'lists/{name}': '' for name in LISTS}, 'document/1': 'Entwertungsnachweis 07-1-1', 'account/1': 'Konto',
                            'look-up/07000000000848': 'Nachschlagen', 'cancel': 'Entwerten', 'export': 'Exportieren', 'transfer': 'Übertragen'})
         b.picture('transfer-german')
         b.go('holdings/1')

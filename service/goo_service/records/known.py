@@ -1,7 +1,8 @@
 """ETags: whoever has an answer asks whether it is still the same, and is told so in no bytes.
 
 An answer is a function of the question, of who asks, and of the entry by which the book stands; of
-notices also of what the exchange wrote. So the tag is made of these, and no list is read for it.
+notices also of what the exchange wrote. So the tag is made of these, and no list is read for it. A
+document depends on what the issuing body says of itself too, and has no tag.
 """
 import hashlib
 import sqlite3
@@ -12,12 +13,15 @@ from flask import request
 
 from goo_service.records.schema import FORM
 
+DOCUMENTS = ('documents', 'cancellations/NUMBER', 'verify')
 MADE = Path(__file__).stat().st_mtime_ns
 """Another version of this service may answer otherwise."""
 
 
-def tag_of(database: sqlite3.Connection, exchange: Path) -> str:
-    """The tag of the answer to this request."""
+def tag_of(name: str, database: sqlite3.Connection, exchange: Path) -> str:
+    """The tag of the answer to this request of a route; no text where it has none."""
+    if request.method != 'GET' or name in DOCUMENTS:
+        return ''
     entry, digest = database.execute('SELECT entry, hash FROM meta').fetchone()
     try:
         written = exchange.stat().st_mtime_ns
@@ -29,12 +33,10 @@ def tag_of(database: sqlite3.Connection, exchange: Path) -> str:
 
 def is_known(tag: str) -> bool:
     """Whether the one who asks has the answer. A tag that a proxy made weak is the same."""
-    if request.method != 'GET':
-        return False
     given = (request.headers.get('If-None-Match') or '').split(',')
-    return tag in (one.strip().removeprefix('W/') for one in given)
+    return bool(tag) and tag in (one.strip().removeprefix('W/') for one in given)
 
 
 def add_tag(response: Response, tag: str) -> None:
-    if request.method == 'GET' and response.status_code == 200:
+    if tag and response.status_code == 200:
         response.headers['ETag'] = tag

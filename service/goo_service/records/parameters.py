@@ -29,11 +29,11 @@ PARAMETERS: dict[str, tuple[str, ...]] = {
     'acts/NUMBER': (),
     'certificates/NUMBER': (),
     'cancellations/NUMBER': (),
-    'documents': ('numbers',),
+    'documents': ('numbers', 'lang'),
     'doubts': (),
     'status': (),
     'openapi.yaml': (),
-    'verify': ('number', 'code'),
+    'verify': ('number', 'code', 'lang'),
 }
 FORMATS = ('csv', 'json')
 

@@ -4,7 +4,7 @@ docs/RECORDS.md has the routes.
 gunicorn runs `application()`. The front door names the caller by GOO-Caller, as it does for the
 registry, and nothing else reaches this service's socket. GOO_RECORDS names the folder with the book
 and the key of check codes, GOO_EXCHANGE the file in which the exchange writes what became of
-notices.
+notices, GOO_ETC the folder with what the issuing body says of itself.
 """
 import contextlib
 import functools
@@ -37,8 +37,11 @@ from goo_service.records import feed
 from goo_service.records import folded
 from goo_service.records import known
 from goo_service.records import lists
+from goo_service.records.body import read_body
+from goo_service.records.code_lists import lists_of
 from goo_service.records.files import csv_of
 from goo_service.records.files import presented
+from goo_service.records.paper import Writer
 from goo_service.records.parameters import parameters_of
 from goo_service.records.questions import BadQuestion
 from goo_service.records.questions import Given
@@ -54,6 +57,7 @@ from goo_service.records.schema import read_moment
 
 FOLDER = Path('/var/lib/goo-records')
 EXCHANGE = FOLDER / 'exchange.json'
+ETC = Path('/etc/goo')
 PAGES = (Path(__file__).resolve().parents[3] / 'docs/records.yaml',
          Path('/usr/share/goo/api/records.yaml'))
 CALLER = re.compile(r'[A-Z0-9][A-Z0-9_-]{0,15}')
@@ -142,8 +146,9 @@ def with_viewer(viewer: Viewer, answer: Callable[[sqlite3.Connection, Viewer, Gi
 class Service:
     """What a route needs: the present book, the key of check codes, and what the exchange wrote."""
 
-    def __init__(self, folder: Path, exchange: Path, limits: Limits = LIMITS) -> None:
-        self.folder, self.exchange, self.limits = folder, exchange, limits
+    def __init__(self, folder: Path, exchange: Path, limits: Limits = LIMITS,
+                 etc: Path = ETC) -> None:
+        self.folder, self.exchange, self.etc, self.limits = folder, exchange, etc, limits
         self.files = threading.BoundedSemaphore(limits.files)
         self.waiting = feed.Waiting(limits.waiting)
         self.lists: dict[str, ListOf] = {
@@ -159,13 +164,19 @@ class Service:
         self.others: dict[str, OtherOf] = {'status': status, 'documents': self.documents}
         self.posted: dict[str, PostedOf] = {'doubts': doubts.doubts}
 
-    @functools.cached_property
-    def key(self) -> bytes:
-        path = self.folder / 'code.key'
-        key = path.read_bytes().strip()
-        if len(key) < KEY:
-            raise OSError(f'{path} has {len(key)} bytes, and a key of check codes has {KEY}')
-        return key
+    @property
+    def maker(self) -> documents.Maker:
+        """The keys of check codes: that of /etc/goo, which all hosts of a registry have, and that
+        of the book's folder, by which a registry without the first one makes codes."""
+        paths = [path for path in (self.etc / 'code.key', self.folder / 'code.key')
+                 if path.exists()]
+        if not paths:
+            raise OSError(f'{self.folder}/code.key is not there')
+        return documents.Maker(tuple(map(read_key, paths)), self.writer)
+
+    def writer(self, language: str) -> Writer:
+        """Who writes documents, by what the issuing body says of itself at the moment."""
+        return Writer(language, read_body(self.etc), lists_of(self.etc))
 
     def book(self, end: float) -> Timed:
         """One moment of the present book, for one answer that has time until then."""
@@ -199,7 +210,7 @@ class Service:
         except (sqlite3.Error, Mismatch, OSError):
             return reply(503, {'error': 'the records are being made'}, **BUSY)
         try:
-            tag = known.tag_of(database, self.exchange)
+            tag = known.tag_of(name, database, self.exchange)
             if known.is_known(tag):
                 response = Response(status=304, headers={**HEADERS, 'ETag': tag})
             else:
@@ -322,15 +333,15 @@ class Service:
         return Listed((*found.columns, 'fate'), rows, found.beside)
 
     def cancellation(self, database: sqlite3.Connection, viewer: Viewer, number: int) -> Row:
-        return documents.shown_document(database, viewer, number, self.key)
+        return documents.shown_document(database, viewer, number, self.maker.keys[0])
 
     def documents(self, database: sqlite3.Connection, viewer: Viewer, given: Given) -> Row:
-        return documents.shown_documents(database, viewer, given, self.key)
+        return documents.shown_documents(database, viewer, given, self.maker)
 
     def verified(self) -> Response:
         """The public check: whether number and code belong together."""
         def answer(database: sqlite3.Connection, given: Given) -> Response:
-            found = documents.verified(database, given, self.key)
+            found = documents.verified(database, given, self.maker)
             if found is None:
                 text = 'number and code do not belong together'
                 return reply(404, {'valid': False, 'error': text})
@@ -354,6 +365,14 @@ def acts_of(database: sqlite3.Connection, viewer: Viewer, given: Given) -> Liste
     if is_set(given, 'folded'):
         return folded.acts(database, viewer, given)
     return acts.acts(database, viewer, given)
+
+
+def read_key(path: Path) -> bytes:
+    """A key of check codes."""
+    key = path.read_bytes().strip()
+    if len(key) < KEY:
+        raise OSError(f'{path} has {len(key)} bytes, and a key of check codes has {KEY}')
+    return key
 
 
 def status(_: sqlite3.Connection, viewer: Viewer, __: Given) -> Row:
@@ -385,10 +404,11 @@ def description() -> Response:
 
 
 def application(folder: Path | None = None, exchange: Path | None = None,
-                limits: Limits = LIMITS) -> Flask:
+                limits: Limits = LIMITS, etc: Path | None = None) -> Flask:
     """The service as a WSGI application."""
     service = Service(folder or Path(os.environ.get('GOO_RECORDS', FOLDER)),
-                      exchange or Path(os.environ.get('GOO_EXCHANGE', EXCHANGE)), limits)
+                      exchange or Path(os.environ.get('GOO_EXCHANGE', EXCHANGE)),
+                      limits, etc or Path(os.environ.get('GOO_ETC', ETC)))
     app = Flask('goo-records', static_folder=None)
 
     @app.get('/records/v1/<name>')
