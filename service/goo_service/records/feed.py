@@ -1,8 +1,8 @@
 """Acts as they come, the oldest first: what programs follow the registry by.
 
-`after` is the last entry that the asker has seen, and the answer's `next` is what to ask after then.
-An entry may have more acts than an answer holds. So `next` may be 4711.1000: all entries up to 4711
-are seen, and of entry 4712 the first 1,000 acts.
+`after` is the last entry that the asker has seen, and the answer's `next` is what to ask after
+then. An entry may have more acts than an answer holds. So `next` may be 4711.1000: all entries up
+to 4711 are seen, and of entry 4712 the first 1,000 acts.
 
 With `wait` an answer without an act is held back until one comes, for so many seconds at most. Few
 wait at once, and of each user one in each process: a thread waits for each.
