@@ -21,6 +21,7 @@ from cryptography.hazmat.primitives.serialization import PrivateFormat
 from hypothesis import given
 from hypothesis import strategies
 from goo_service.exchange.signature import Key
+from goo_service.log.closed import closed_in
 from goo_service.migrate import check
 from goo_service.migrate import enquiry
 from goo_service.migrate import plan
@@ -301,6 +302,16 @@ def test_numbers_that_are_assigned_are_found_both_ways(folder: Path) -> None:
     assert enquiry.by_old_number(folder, read, old_registry.number(10 ** 9)) is None
 
 
+def test_a_rehearsal_goes_on_behind_what_one_run_takes(rehearsed: Path, tmp_path: Path,
+                                                       monkeypatch: pytest.MonkeyPatch) -> None:
+    monkeypatch.setattr(rehearsal, 'MOST_BYTES', 20_000)
+    steps = list(sending.steps_in(rehearsed))
+    portions = list(rehearsal.portions(steps))
+    assert len(portions) > 2 and [step for taken in portions for step in taken] == steps
+    place = copied(rehearsed, tmp_path)
+    assert rehearsal.rehearse(place, settings.read(place), GOO).comparison.differences == []
+
+
 def test_the_carried_energy_is_in_a_list(rehearsed: Path) -> None:
     lines = (rehearsed / plan.CARRIED).read_text(encoding='utf-8').splitlines()
     device, energy = old_registry.read_tables(rehearsed)['carried'][0]
@@ -377,6 +388,15 @@ def test_a_run_that_is_killed_goes_on_and_ends_the_same(empty_house: House,
     for part in ('log', 'registry'):
         empty_house.stop(part)          # the database of a registry that runs is locked
     assert compare(tmp_path, read, empty_house.db).differences == []
+
+
+def test_the_old_registry_is_closed_once_it_is_over(rehearsed: Path, tmp_path: Path) -> None:
+    words = [*command('goo-migrate', SERVICE), 'close', str(rehearsed), '--closed',
+             str(tmp_path / 'closed')]
+    for _ in range(2):
+        subprocess.run(words, check=True, capture_output=True)
+    assert closed_in(tmp_path / 'closed') == {'8'}
+    assert len((tmp_path / 'closed').read_text().splitlines()) == 1
 
 
 def test_a_request_that_is_answered_otherwise_stops_the_run(tmp_path: Path) -> None:

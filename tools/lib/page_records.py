@@ -331,7 +331,7 @@ class Seen:
     def names(self):
         b = self.b
         b.go('transfer/1/07000000000733/07000000000733')
-        b.fill('transfer', taker='2')
+        b.fill('transfer', taker='2', taker_holder='VOLT')
         b.press('form.transfer button[type=submit]')
         got = b.text('dialog[open]')
         self.check('the question before a transfer names both holders', 'SUN, Sun Power GmbH' in got and 'VOLT, Volt Handel AG' in got, got)
@@ -452,11 +452,12 @@ class Seen:
 
     def transfer_by_keys(self, hands, chosen):
         b, check, before = self.b, self.check, [self.held(account) for account in (1, 2)]
-        hands.press('form.bundle [name=taker]', key='2\n')
+        hands.press('form.bundle [name=taker]', key='2')
+        hands.press('form.bundle [name=taker_holder]', key='VOLT\n')
         b.see('dialog[open]')
         hands.keys(Keys.ESCAPE)
         b.gone('dialog[open]')
-        check('a question that is left gives the focus back to the field', hands.is_at('form.bundle [name=taker]'))
+        check('a question that is left gives the focus back to the field', hands.is_at('form.bundle [name=taker_holder]'))
         hands.press('form.bundle button.main', 'Transfer')
         b.see('dialog[open]')
         hands.keys(Keys.ESCAPE)
@@ -638,7 +639,7 @@ class Seen:
         before = [self.held(account) for account in (1, 2)]
         b.press('.chosen button', 'Transfer')
         b.see('form.bundle')
-        b.fill('bundle', taker='2')
+        b.fill('bundle', taker='2', taker_holder='VOLT')
         self.readable(b, 'a selection')
         b.picture('selection')
         b.picture('selection-dark', dark=True)
@@ -660,7 +661,7 @@ class Seen:
         text = b.text('.chosen', 'certificates chosen in')
         chosen, before = int(text.split()[0].replace(',', '')), [self.held(account) for account in (1, 2)]
         b.press('.chosen button', 'Transfer')
-        b.fill('bundle', taker='2')
+        b.fill('bundle', taker='2', taker_holder='VOLT')
         b.press('form.bundle button.main', 'Transfer')
         fates = iter(('unheard',))
         place.relay.fate = lambda: next(fates, 'passed')

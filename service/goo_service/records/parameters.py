@@ -24,6 +24,8 @@ PARAMETERS: dict[str, tuple[str, ...]] = {
     'holders': PAGE,
     'withdrawals': PAGE,
     'undeclared': ('month', 'account', *PAGE),
+    'directory': PAGE,
+    'party': ('account', 'holder', 'peer'),
     'statistics': ('by', 'from', 'to', *SUMMED, *PAGE),
     **{name: ('account', *FILTERS.get(name, {}), 'sort', *PAGE) for name in LISTS},
     'acts/NUMBER': (),

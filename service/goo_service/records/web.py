@@ -4,7 +4,8 @@ docs/RECORDS.md has the routes.
 gunicorn runs `application()`. The front door names the caller by GOO-Caller, as it does for the
 registry, and nothing else reaches this service's socket. GOO_RECORDS names the folder with the book
 and the key of check codes, GOO_EXCHANGE the file in which the exchange writes what became of
-notices, GOO_ETC the folder with what the issuing body says of itself.
+notices, GOO_ETC the folder with what the issuing body says of itself, GOO_RECORDS_DIRECTORY says
+whether holders see whose accounts there are.
 """
 import contextlib
 import functools
@@ -43,6 +44,8 @@ from goo_service.records.files import csv_of
 from goo_service.records.files import presented
 from goo_service.records.paper import Writer
 from goo_service.records.parameters import parameters_of
+from goo_service.records.parties import Parties
+from goo_service.records.parties import TooMany
 from goo_service.records.questions import BadQuestion
 from goo_service.records.questions import Given
 from goo_service.records.questions import Listed
@@ -67,7 +70,10 @@ STEPS = 10_000
 BUSY = {'Retry-After': '10'}
 KEY = 64
 """Bytes of the key of check codes."""
-STATUSES = {BadQuestion: 400, NotFound: 404, TooFew: 409}
+STATUSES: dict[type[Exception], int] = {
+    BadQuestion: 400, NotFound: 404, TooFew: 409, TooMany: 429}
+DIRECTORY = {'shown': True, 'hidden': False}
+"""What GOO_RECORDS_DIRECTORY says: whether holders see whose accounts there are."""
 FateKey = tuple[int, int, int]
 """A notice: 1 where it was sent and 0 where it came, the other registry, its number."""
 
@@ -95,7 +101,8 @@ class Busy(Exception):
     """As many files as may be are being written."""
 
 
-FAULTS = (TooLong, Busy, OSError, sqlite3.DatabaseError, *STATUSES)
+FAULTS: tuple[type[Exception], ...] = (
+    TooLong, Busy, OSError, sqlite3.DatabaseError, *STATUSES)
 """What an answer can come to instead."""
 
 
@@ -147,8 +154,9 @@ class Service:
     """What a route needs: the present book, the key of check codes, and what the exchange wrote."""
 
     def __init__(self, folder: Path, exchange: Path, limits: Limits = LIMITS,
-                 etc: Path = ETC) -> None:
+                 etc: Path = ETC, shows_directory: bool = True) -> None:
         self.folder, self.exchange, self.etc, self.limits = folder, exchange, etc, limits
+        self.parties = Parties(exchange, shows_directory)
         self.files = threading.BoundedSemaphore(limits.files)
         self.waiting = feed.Waiting(limits.waiting)
         self.lists: dict[str, ListOf] = {
@@ -156,12 +164,14 @@ class Service:
             'deadlines': certificates.deadlines, 'choice': certificates.choice,
             'holders': lists.holders, 'withdrawals': lists.withdrawals,
             'statistics': lists.statistics, 'undeclared': doubts.undeclared,
+            'directory': self.parties.directory,
             **{name: functools.partial(lists.listed, name) for name in lists.LISTS},
             'notices': self.notices}
         self.ones: dict[str, OneOf] = {
             'acts': acts.act, 'certificates': certificates.certificate,
             'cancellations': self.cancellation}
-        self.others: dict[str, OtherOf] = {'status': status, 'documents': self.documents}
+        self.others: dict[str, OtherOf] = {
+            'status': self.status, 'documents': self.documents, 'party': self.party}
         self.posted: dict[str, PostedOf] = {'doubts': doubts.doubts}
 
     @property
@@ -227,7 +237,8 @@ class Service:
     def failure(self, error: Exception, is_late: bool, seconds: float) -> Response:
         """The answer where there is none."""
         if status := STATUSES.get(type(error)):
-            return reply(status, {'error': str(error)})
+            wait = {'Retry-After': str(error.wait)} if isinstance(error, TooMany) else {}
+            return reply(status, {'error': str(error)}, **wait)
         if isinstance(error, Busy):
             text = 'other files are being written: ask again in some seconds'
             return reply(503, {'error': text}, **BUSY)
@@ -338,6 +349,14 @@ class Service:
     def documents(self, database: sqlite3.Connection, viewer: Viewer, given: Given) -> Row:
         return documents.shown_documents(database, viewer, given, self.maker)
 
+    def status(self, _: sqlite3.Connection, viewer: Viewer, __: Given) -> Row:
+        """Who looks, and whether he sees the directory."""
+        return {'caller': viewer.caller, 'directory': self.parties.is_shown or viewer.sees_all}
+
+    def party(self, database: sqlite3.Connection, viewer: Viewer, given: Given) -> Row:
+        user = request.headers.get('GOO-User') or viewer.caller
+        return self.parties.party(database, viewer, given, user)
+
     def verified(self) -> Response:
         """The public check: whether number and code belong together."""
         def answer(database: sqlite3.Connection, given: Given) -> Response:
@@ -375,11 +394,6 @@ def read_key(path: Path) -> bytes:
     return key
 
 
-def status(_: sqlite3.Connection, viewer: Viewer, __: Given) -> Row:
-    """Who looks."""
-    return {'caller': viewer.caller}
-
-
 def fates_in(path: Path) -> dict[FateKey, str]:
     """What became of each notice; nothing where the exchange has not written it yet."""
     try:
@@ -403,12 +417,22 @@ def description() -> Response:
     return Response(page.read_bytes(), 200, HEADERS, content_type='application/yaml')
 
 
+def shows_directory() -> bool:
+    """Whether holders see whose accounts there are, by what the unit says; they do unless it says
+    otherwise."""
+    word = os.environ.get('GOO_RECORDS_DIRECTORY', 'shown')
+    if word not in DIRECTORY:
+        sys.exit(f'records.conf: GOO_RECORDS_DIRECTORY is {word!r}, and not one of '
+                 f'{", ".join(DIRECTORY)}')
+    return DIRECTORY[word]
+
+
 def application(folder: Path | None = None, exchange: Path | None = None,
                 limits: Limits = LIMITS, etc: Path | None = None) -> Flask:
     """The service as a WSGI application."""
     service = Service(folder or Path(os.environ.get('GOO_RECORDS', FOLDER)),
                       exchange or Path(os.environ.get('GOO_EXCHANGE', EXCHANGE)),
-                      limits, etc or Path(os.environ.get('GOO_ETC', ETC)))
+                      limits, etc or Path(os.environ.get('GOO_ETC', ETC)), shows_directory())
     app = Flask('goo-records', static_folder=None)
 
     @app.get('/records/v1/<name>')
