@@ -5,6 +5,7 @@ notices also of what the exchange wrote. So the tag is made of these, and no lis
 document depends on what the issuing body says of itself too, and has no tag.
 """
 import hashlib
+import os
 import sqlite3
 from pathlib import Path
 
@@ -14,8 +15,8 @@ from flask import request
 from goo_service.records.schema import FORM
 
 DOCUMENTS = ('documents', 'cancellations/NUMBER', 'verify')
-MADE = Path(__file__).stat().st_mtime_ns
-"""Another version of this service may answer otherwise."""
+MADE = Path(__file__).stat().st_mtime_ns, os.environ.get('GOO_RECORDS_DIRECTORY')
+"""Another version of this service, or another configuration, may answer otherwise."""
 
 
 def tag_of(name: str, database: sqlite3.Connection, exchange: Path) -> str:
