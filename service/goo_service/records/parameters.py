@@ -17,7 +17,7 @@ HELD = ('account', 'q', 'tradable', *LOT_FILTERS)
 SUMMED = ('tech', 'source', 'carrier', 'country', 'device')
 PARAMETERS: dict[str, tuple[str, ...]] = {
     'acts': (*ACT_FILTERS, 'account', 'key', 'entry', 'from', 'to', 'q', 'before', 'limit',
-             'format'),
+             'format', 'folded', 'after', 'wait'),
     'holdings': ('by', 'place', 'sort', *HELD, *PAGE),
     'deadlines': ('days', *HELD, *PAGE),
     'choice': ('count', 'order', 'act', *HELD, 'format'),

@@ -8,6 +8,7 @@ notices, GOO_ETC the folder with what the issuing body says of itself, GOO_ATTAC
 documents that were brought over, GOO_RECORDS_DIRECTORY says whether holders see whose accounts
 there are.
 """
+import contextlib
 import functools
 import itertools
 import json
@@ -35,6 +36,9 @@ from goo_service.records import acts
 from goo_service.records import certificates
 from goo_service.records import documents
 from goo_service.records import doubts
+from goo_service.records import feed
+from goo_service.records import folded
+from goo_service.records import known
 from goo_service.records import lists
 from goo_service.records.attachments import Attachments
 from goo_service.records.body import read_body
@@ -52,6 +56,7 @@ from goo_service.records.questions import NotFound
 from goo_service.records.questions import Row
 from goo_service.records.questions import TooFew
 from goo_service.records.questions import Viewer
+from goo_service.records.questions import is_set
 from goo_service.records.questions import standing
 from goo_service.records.schema import Mismatch
 from goo_service.records.schema import read_moment
@@ -85,6 +90,8 @@ class Limits:
     question: float = 10
     file: float = 60
     files: int = 2
+    waiting: int = 8
+    """Readers in one process that wait for the next act. Its other threads answer."""
 
 
 LIMITS = Limits()
@@ -157,8 +164,9 @@ class Service:
         self.parties = Parties(exchange, shows_directory)
         self.kept = Attachments(attachments)
         self.files = threading.BoundedSemaphore(limits.files)
+        self.waiting = feed.Waiting(limits.waiting)
         self.lists: dict[str, ListOf] = {
-            'acts': acts.acts, 'holdings': certificates.holdings,
+            'acts': acts_of, 'holdings': certificates.holdings,
             'deadlines': certificates.deadlines, 'choice': certificates.choice,
             'holders': lists.holders, 'withdrawals': lists.withdrawals,
             'statistics': lists.statistics, 'undeclared': doubts.undeclared,
@@ -218,7 +226,12 @@ class Service:
         except (sqlite3.Error, Mismatch, OSError):
             return reply(503, {'error': 'the records are being made'}, **BUSY)
         try:
-            response = self.response(answer(database, given), database, name, is_file)
+            tag = known.tag_of(name, database, self.exchange)
+            if known.is_known(tag):
+                response = Response(status=304, headers={**HEADERS, 'ETag': tag})
+            else:
+                response = self.response(answer(database, given), database, name, is_file)
+                known.add_tag(response, tag)
         except FAULTS as error:
             response = self.failure(error, database.is_late(), seconds)
         except BaseException:
@@ -273,6 +286,47 @@ class Service:
             yield from parts
         finally:
             self.files.release()
+
+    def named(self, name: str) -> Response:
+        """The answer of a list, or of another route without a number."""
+        if name == 'acts' and request.args.get('wait'):
+            return self.followed()
+        answer = self.lists.get(name) or self.others.get(name)
+        if answer is None:
+            return reply(404, {'error': f'there is no list {name}'})
+        return self.for_viewer(name, answer)
+
+    def followed(self) -> Response:
+        """Acts after an entry. Where there is none, the answer is held back for a while."""
+        try:
+            seconds = feed.seconds_of(parameters_of('acts', request.args))
+        except BadQuestion as error:
+            return reply(400, {'error': str(error)})
+        until = time.monotonic() + seconds
+        user = request.headers.get('GOO-User') or request.headers.get('GOO-Caller') or ''
+        try:
+            with self.waiting.one(user):
+                return self.held_back(until)
+        except feed.TooMany:
+            text = f'{user} waits already, or {self.limits.waiting} others do: ask again later'
+            return reply(503, {'error': text}, **BUSY)
+
+    def held_back(self, until: float) -> Response:
+        """The answer, once it has an act or the time is over."""
+        while True:
+            seen = self.entry()
+            response = self.for_viewer('acts', acts_of)
+            if not says_nothing(response) or not feed.moved_on(self.entry, seen, until):
+                return response
+            response.close()
+
+    def entry(self) -> int | None:
+        """That by which the book stands; None while there is none."""
+        try:
+            with contextlib.closing(self.book(time.monotonic() + 1)) as database:
+                return int(standing(database)['entry'])
+        except FAULTS:
+            return None
 
     def table(self, name: str) -> Response:
         """The answer to a table that is sent to be looked at. Nothing of it is kept."""
@@ -331,6 +385,23 @@ class Service:
         return self.for_anybody('verify', answer)
 
 
+def says_nothing(response: Response) -> bool:
+    """Whether an answer has no act, or none that is not known."""
+    status = response.status_code
+    return status == 304 or status == 200 and b'"items":[]' in response.data[:400]
+
+
+def acts_of(database: sqlite3.Connection, viewer: Viewer, given: Given) -> Listed:
+    """Acts: the newest first, with each bundle as one row where that is asked for, or as they come
+    after an entry."""
+    feed.seconds_of(given)
+    if 'after' in given:
+        return feed.acts(database, viewer, given)
+    if is_set(given, 'folded'):
+        return folded.acts(database, viewer, given)
+    return acts.acts(database, viewer, given)
+
+
 def read_key(path: Path) -> bytes:
     """A key of check codes."""
     key = path.read_bytes().strip()
@@ -384,10 +455,7 @@ def application(folder: Path | None = None, exchange: Path | None = None,
 
     @app.get('/records/v1/<name>')
     def a_list(name: str) -> Response:
-        answer = service.lists.get(name) or service.others.get(name)
-        if answer is None:
-            return reply(404, {'error': f'there is no list {name}'})
-        return service.for_viewer(name, answer)
+        return service.named(name)
 
     @app.get('/records/v1/<name>/<int:number>')
     def one(name: str, number: int) -> Response:
