@@ -40,7 +40,7 @@ const line = (text) => h('span', {class: 'line'}, written(text));
 function tableOf({caption, columns, rows}) {
   const kept = columns.map((column, at) => ({...column, at})), beside = kept.filter(({kind}) => kind !== 'ranges'), below = kept.filter(({kind}) => kind === 'ranges');
   const rowsOf = (row) => [
-    h('tr', {role: 'row', class: below.length ? 'lot' : null}, beside.map(({name, kind, at}) => h('td', {role: 'cell', 'data-name': name, class: kind}, row[at].map(line)))),
+    h('tr', {role: 'row', class: below.length ? 'lot' : null}, beside.map(({name, kind, at}) => h('td', {role: 'cell', 'data-name': name, class: kind}, row[at].length > 1 ? row[at].map(line) : row[at].map(written)))),
     ...below.filter(({at}) => row[at].length).map(({name, kind, at}) => h('tr', {role: 'row', class: 'below'}, h('td', {role: 'cell', 'data-name': name, class: kind, colspan: beside.length}, row[at].map(range))))];
   return h('table', {role: 'table'}, h('caption', {}, written(caption)),
     h('thead', {role: 'rowgroup'}, h('tr', {role: 'row'}, beside.map(({name, kind}) => h('th', {role: 'columnheader', scope: 'col', class: kind}, written(name))))),

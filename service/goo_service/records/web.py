@@ -4,8 +4,11 @@ docs/RECORDS.md has the routes.
 gunicorn runs `application()`. The front door names the caller by GOO-Caller, as it does for the
 registry, and nothing else reaches this service's socket. GOO_RECORDS names the folder with the book
 and the key of check codes, GOO_EXCHANGE the file in which the exchange writes what became of
-notices, GOO_ETC the folder with what the issuing body says of itself.
+notices, GOO_ETC the folder with what the issuing body says of itself, GOO_ATTACHMENTS the folder of
+documents that were brought over, GOO_RECORDS_DIRECTORY says whether holders see whose accounts
+there are.
 """
+import contextlib
 import functools
 import itertools
 import json
@@ -20,6 +23,7 @@ from collections.abc import Iterator
 from dataclasses import dataclass
 from pathlib import Path
 from typing import Any
+from urllib.parse import quote
 
 from flask import Flask
 from flask import Response
@@ -33,13 +37,19 @@ from goo_service.records import acts
 from goo_service.records import certificates
 from goo_service.records import documents
 from goo_service.records import doubts
+from goo_service.records import feed
+from goo_service.records import folded
+from goo_service.records import known
 from goo_service.records import lists
+from goo_service.records.attachments import Attachments
 from goo_service.records.body import read_body
 from goo_service.records.code_lists import lists_of
 from goo_service.records.files import csv_of
 from goo_service.records.files import presented
 from goo_service.records.paper import Writer
 from goo_service.records.parameters import parameters_of
+from goo_service.records.parties import Parties
+from goo_service.records.parties import TooMany
 from goo_service.records.pdf import NotInstalled
 from goo_service.records.pdf import NotRendered
 from goo_service.records.pdf import pdfs
@@ -50,6 +60,7 @@ from goo_service.records.questions import NotFound
 from goo_service.records.questions import Row
 from goo_service.records.questions import TooFew
 from goo_service.records.questions import Viewer
+from goo_service.records.questions import is_set
 from goo_service.records.questions import standing
 from goo_service.records.schema import Mismatch
 from goo_service.records.schema import read_moment
@@ -59,6 +70,7 @@ from goo_service.records.seal import sealed
 FOLDER = Path('/var/lib/goo-records')
 EXCHANGE = FOLDER / 'exchange.json'
 ETC = Path('/etc/goo')
+ATTACHMENTS = Path('/var/lib/goo-attachments')
 PAGES = (Path(__file__).resolve().parents[3] / 'docs/records.yaml',
          Path('/usr/share/goo/api/records.yaml'))
 CALLER = re.compile(r'[A-Z0-9][A-Z0-9_-]{0,15}')
@@ -68,7 +80,10 @@ STEPS = 10_000
 BUSY = {'Retry-After': '10'}
 KEY = 64
 """Bytes of the key of check codes."""
-STATUSES = {BadQuestion: 400, NotFound: 404, TooFew: 409, NotInstalled: 501}
+STATUSES: dict[type[Exception], int] = {
+    BadQuestion: 400, NotFound: 404, TooFew: 409, TooMany: 429, NotInstalled: 501}
+DIRECTORY = {'shown': True, 'hidden': False}
+"""What GOO_RECORDS_DIRECTORY says: whether holders see whose accounts there are."""
 FateKey = tuple[int, int, int]
 """A notice: 1 where it was sent and 0 where it came, the other registry, its number."""
 
@@ -81,6 +96,8 @@ class Limits:
     question: float = 10
     file: float = 60
     files: int = 2
+    waiting: int = 8
+    """Readers in one process that wait for the next act. Its other threads answer."""
 
 
 LIMITS = Limits()
@@ -94,7 +111,8 @@ class Busy(Exception):
     """As many files as may be are being written."""
 
 
-FAULTS = (TooLong, Busy, NotRendered, OSError, sqlite3.DatabaseError, *STATUSES)
+FAULTS: tuple[type[Exception], ...] = (
+    TooLong, Busy, NotRendered, OSError, sqlite3.DatabaseError, *STATUSES)
 """What an answer can come to instead."""
 
 
@@ -118,7 +136,7 @@ class Timed(sqlite3.Connection):
 
 
 ListOf = Callable[[sqlite3.Connection, Viewer, Given], Listed]
-OneOf = Callable[[sqlite3.Connection, Viewer, int], Row]
+OneOf = Callable[[sqlite3.Connection, Viewer, int], 'Answer']
 OtherOf = Callable[[sqlite3.Connection, Viewer, Given], Row | Response]
 PostedOf = Callable[[sqlite3.Connection, Viewer, Given, bytes], Row]
 Answer = Response | Listed | Row
@@ -146,21 +164,27 @@ class Service:
     """What a route needs: the present book, the key of check codes, and what the exchange wrote."""
 
     def __init__(self, folder: Path, exchange: Path, limits: Limits = LIMITS,
-                 etc: Path = ETC) -> None:
+                 etc: Path = ETC, shows_directory: bool = True,
+                 attachments: Path = ATTACHMENTS) -> None:
         self.folder, self.exchange, self.etc, self.limits = folder, exchange, etc, limits
+        self.parties = Parties(exchange, shows_directory)
+        self.kept = Attachments(attachments)
         self.files = threading.BoundedSemaphore(limits.files)
         self.papers = threading.BoundedSemaphore(1)
+        self.waiting = feed.Waiting(limits.waiting)
         self.lists: dict[str, ListOf] = {
-            'acts': acts.acts, 'holdings': certificates.holdings,
+            'acts': acts_of, 'holdings': certificates.holdings,
             'deadlines': certificates.deadlines, 'choice': certificates.choice,
             'holders': lists.holders, 'withdrawals': lists.withdrawals,
             'statistics': lists.statistics, 'undeclared': doubts.undeclared,
+            'directory': self.parties.directory,
             **{name: functools.partial(lists.listed, name) for name in lists.LISTS},
-            'notices': self.notices}
+            'notices': self.notices, 'attachments': self.attachments}
         self.ones: dict[str, OneOf] = {
             'acts': acts.act, 'certificates': certificates.certificate,
-            'cancellations': self.cancellation}
-        self.others: dict[str, OtherOf] = {'status': status, 'documents': self.documents}
+            'cancellations': self.cancellation, 'attachments': self.attachment}
+        self.others: dict[str, OtherOf] = {
+            'status': self.status, 'documents': self.documents, 'party': self.party}
         self.posted: dict[str, PostedOf] = {'doubts': doubts.doubts}
 
     @property
@@ -211,7 +235,12 @@ class Service:
         except (sqlite3.Error, Mismatch, OSError):
             return reply(503, {'error': 'the records are being made'}, **BUSY)
         try:
-            response = self.response(answer(database, given), database, name, is_file)
+            tag = known.tag_of(name, database, self.exchange)
+            if known.is_known(tag):
+                response = Response(status=304, headers={**HEADERS, 'ETag': tag})
+            else:
+                response = self.response(answer(database, given), database, name, is_file)
+                known.add_tag(response, tag)
         except FAULTS as error:
             response = self.failure(error, database.is_late(), seconds)
         except BaseException:
@@ -223,7 +252,8 @@ class Service:
     def failure(self, error: Exception, is_late: bool, seconds: float) -> Response:
         """The answer where there is none."""
         if status := STATUSES.get(type(error)):
-            return reply(status, {'error': str(error)})
+            wait = {'Retry-After': str(error.wait)} if isinstance(error, TooMany) else {}
+            return reply(status, {'error': str(error)}, **wait)
         if isinstance(error, Busy):
             text = 'other files are being written: ask again in some seconds'
             return reply(503, {'error': text}, **BUSY)
@@ -267,6 +297,47 @@ class Service:
             yield from parts
         finally:
             self.files.release()
+
+    def named(self, name: str) -> Response:
+        """The answer of a list, or of another route without a number."""
+        if name == 'acts' and request.args.get('wait'):
+            return self.followed()
+        answer = self.lists.get(name) or self.others.get(name)
+        if answer is None:
+            return reply(404, {'error': f'there is no list {name}'})
+        return self.for_viewer(name, answer)
+
+    def followed(self) -> Response:
+        """Acts after an entry. Where there is none, the answer is held back for a while."""
+        try:
+            seconds = feed.seconds_of(parameters_of('acts', request.args))
+        except BadQuestion as error:
+            return reply(400, {'error': str(error)})
+        until = time.monotonic() + seconds
+        user = request.headers.get('GOO-User') or request.headers.get('GOO-Caller') or ''
+        try:
+            with self.waiting.one(user):
+                return self.held_back(until)
+        except feed.TooMany:
+            text = f'{user} waits already, or {self.limits.waiting} others do: ask again later'
+            return reply(503, {'error': text}, **BUSY)
+
+    def held_back(self, until: float) -> Response:
+        """The answer, once it has an act or the time is over."""
+        while True:
+            seen = self.entry()
+            response = self.for_viewer('acts', acts_of)
+            if not says_nothing(response) or not feed.moved_on(self.entry, seen, until):
+                return response
+            response.close()
+
+    def entry(self) -> int | None:
+        """That by which the book stands; None while there is none."""
+        try:
+            with contextlib.closing(self.book(time.monotonic() + 1)) as database:
+                return int(standing(database)['entry'])
+        except FAULTS:
+            return None
 
     def table(self, name: str) -> Response:
         """The answer to a table that is sent to be looked at. Nothing of it is kept."""
@@ -316,6 +387,24 @@ class Service:
         return Response(sealed(made, paper['number'], paper['code'], key), 200, fields,
                         content_type='application/pdf')
 
+    def status(self, _: sqlite3.Connection, viewer: Viewer, __: Given) -> Row:
+        """Who looks, and whether he sees the directory."""
+        return {'caller': viewer.caller, 'directory': self.parties.is_shown or viewer.sees_all}
+
+    def party(self, database: sqlite3.Connection, viewer: Viewer, given: Given) -> Row:
+        user = request.headers.get('GOO-User') or viewer.caller
+        return self.parties.party(database, viewer, given, user)
+
+    def attachments(self, _: sqlite3.Connection, viewer: Viewer, given: Given) -> Listed:
+        return self.kept.listed(viewer, given)
+
+    def attachment(self, _: sqlite3.Connection, viewer: Viewer, number: int) -> Response:
+        """A document that was brought over. A browser saves it, and never opens it here."""
+        found, content = self.kept.content(viewer, number)
+        name = quote(found.file, safe='')
+        fields = {**HEADERS, 'Content-Disposition': f"attachment; filename*=UTF-8''{name}"}
+        return Response(content, 200, fields, content_type='application/octet-stream')
+
     def verified(self) -> Response:
         """The public check: whether number and code belong together."""
         def answer(database: sqlite3.Connection, given: Given) -> Response:
@@ -360,17 +449,29 @@ def public_in(path: Path) -> str:
         raise OSError(f'{path} has no public key') from fault
 
 
+def says_nothing(response: Response) -> bool:
+    """Whether an answer has no act, or none that is not known."""
+    status = response.status_code
+    return status == 304 or status == 200 and b'"items":[]' in response.data[:400]
+
+
+def acts_of(database: sqlite3.Connection, viewer: Viewer, given: Given) -> Listed:
+    """Acts: the newest first, with each bundle as one row where that is asked for, or as they come
+    after an entry."""
+    feed.seconds_of(given)
+    if 'after' in given:
+        return feed.acts(database, viewer, given)
+    if is_set(given, 'folded'):
+        return folded.acts(database, viewer, given)
+    return acts.acts(database, viewer, given)
+
+
 def read_key(path: Path) -> bytes:
     """A key of check codes."""
     key = path.read_bytes().strip()
     if len(key) < KEY:
         raise OSError(f'{path} has {len(key)} bytes, and a key of check codes has {KEY}')
     return key
-
-
-def status(_: sqlite3.Connection, viewer: Viewer, __: Given) -> Row:
-    """Who looks."""
-    return {'caller': viewer.caller}
 
 
 def fates_in(path: Path) -> dict[FateKey, str]:
@@ -396,20 +497,29 @@ def description() -> Response:
     return Response(page.read_bytes(), 200, HEADERS, content_type='application/yaml')
 
 
+def shows_directory() -> bool:
+    """Whether holders see whose accounts there are, by what the unit says; they do unless it says
+    otherwise."""
+    word = os.environ.get('GOO_RECORDS_DIRECTORY', 'shown')
+    if word not in DIRECTORY:
+        sys.exit(f'records.conf: GOO_RECORDS_DIRECTORY is {word!r}, and not one of '
+                 f'{", ".join(DIRECTORY)}')
+    return DIRECTORY[word]
+
+
 def application(folder: Path | None = None, exchange: Path | None = None,
-                limits: Limits = LIMITS, etc: Path | None = None) -> Flask:
+                limits: Limits = LIMITS, etc: Path | None = None,
+                attachments: Path | None = None) -> Flask:
     """The service as a WSGI application."""
     service = Service(folder or Path(os.environ.get('GOO_RECORDS', FOLDER)),
                       exchange or Path(os.environ.get('GOO_EXCHANGE', EXCHANGE)),
-                      limits, etc or Path(os.environ.get('GOO_ETC', ETC)))
+                      limits, etc or Path(os.environ.get('GOO_ETC', ETC)), shows_directory(),
+                      attachments or Path(os.environ.get('GOO_ATTACHMENTS', ATTACHMENTS)))
     app = Flask('goo-records', static_folder=None)
 
     @app.get('/records/v1/<name>')
     def a_list(name: str) -> Response:
-        answer = service.lists.get(name) or service.others.get(name)
-        if answer is None:
-            return reply(404, {'error': f'there is no list {name}'})
-        return service.for_viewer(name, answer)
+        return service.named(name)
 
     @app.get('/records/v1/<name>/<int:number>')
     def one(name: str, number: int) -> Response:
