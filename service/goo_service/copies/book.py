@@ -17,6 +17,7 @@ from typing import BinaryIO
 from goo_service.common.files import write_whole
 from goo_service.common.owner import done_as_owner
 from goo_service.common.owner import remove
+from goo_service.copies import contents
 from goo_service.copies.contents import open_regular
 
 USER = 'goo-records'
@@ -37,13 +38,8 @@ def place_beginning(copy: Path, n: int, configuration: Path) -> str:
     conf = configuration / 'records.conf'
     if not configuration.is_dir() or conf.exists() and not has_requests(copy / 'registry.db'):
         return ''
-    if not BOOK.is_dir():
-        try:
-            user = pwd.getpwnam(USER)
-        except KeyError:
-            return ''
-        BOOK.mkdir(mode=0o750)
-        os.chown(BOOK, user.pw_uid, user.pw_gid)
+    if not has_folder():
+        return ''
     with ExitStack() as stack:
         files: dict[str, BinaryIO] = {
             name: stack.enter_context(open_regular(copy / name)) for name in FILES}
@@ -51,6 +47,39 @@ def place_beginning(copy: Path, n: int, configuration: Path) -> str:
     write_whole(conf, '# How the book of acts begins (RECORDS.md)\n'
                 f'GOO_RECORDS_BEGIN=--copy {BOOK / FIRST} --after {n}\n', 0o644)
     return f'{conf}: the book of acts begins with this copy, after entry {n}'
+
+
+def has_folder() -> bool:
+    """Whether the book has its folder. It is made where this host has the user of the records."""
+    if BOOK.is_dir():
+        return True
+    try:
+        user = pwd.getpwnam(USER)
+    except KeyError:
+        return False
+    BOOK.mkdir(mode=0o750)
+    os.chown(BOOK, user.pw_uid, user.pw_gid)
+    return True
+
+
+def archive_beginning(target: Path) -> None:
+    """Puts the beginning into a tar file, where the book of this host has one."""
+    if os.path.lexists(BOOK / FIRST):
+        with open(target, 'xb') as file:
+            contents.tar('--create', '--file', '-', '--one-file-system', FIRST, folder=BOOK,
+                         stdout=file)
+
+
+def put_beginning_back(archive: Path) -> bool:
+    """Whether the beginning that a tar file has is the book's now. One that is there stays."""
+    if os.path.lexists(BOOK / FIRST) or not archive.is_file() or not has_folder():
+        return False
+    part = BOOK / f'{FIRST}.part'
+    done_as_owner(BOOK, lambda: remove(part))
+    contents.unpack(archive, BOOK, f'--transform=s,^{FIRST},{part.name},')
+    contents.sync(BOOK)
+    done_as_owner(BOOK, lambda: os.rename(part, BOOK / FIRST))
+    return True
 
 
 def has_requests(database: Path) -> bool:

@@ -24,7 +24,7 @@ MOST, USUAL, MOST_IN_FILE = 1000, 100, 100_000
 """Rows of one answer, and of one that is saved as a file."""
 DAYS = ('from', 'to', 'expires_before')
 """Parameters that are days."""
-WHOLE = ('account', 'peer', 'number', 'origin')
+WHOLE = ('account', 'peer', 'number', 'origin', 'bundle')
 """Filters that are whole numbers."""
 WORDS = {'kind': (*KINDS.values(), 'expiry', 'unreadable'),
          'outcome': ('accepted', 'refused', 'unreadable', 'set aside')}

@@ -39,7 +39,7 @@ def two_devices(house: House) -> tuple[str, str]:
 
 
 def production(first: str, second: str) -> list[str]:
-    """Six rows of 5,440 MWh and 1 Wh; the fourth is more than the device's capacity allows."""
+    """Six rows of 5,440.000001 MWh; the fourth is more than the device's capacity allows."""
     return [f'c1-{first},{first},2024-09-01,2024-09-30,1234567890,34567890',
             f'c2-{first},{first},2024-10-01,2024-10-31,980000000,20000000',
             f'c4-{first},{first},2024-12-01,2024-12-31,702000000,2000000',
@@ -112,7 +112,7 @@ def test_a_dropped_file_is_asked_about_and_told_row_by_row(house: House, visit: 
     page.see('table caption', '6 rows')
     page.click('main .buttons button', 'Declare 6 rows')
     asked = page.text('dialog[open]', 'can’t be taken back')
-    wanted = ('6', '2024-09-01', '2025-02-28', '5,440 MWh and 1 Wh')
+    wanted = ('6', '2024-09-01', '2025-02-28', '5,440.000001 MWh')
     assert [text for text in wanted if text not in asked] == [] and house.entry() == before
     page.click('dialog[open] button.main')
     told = page.text('.result', '4 accepted')
