@@ -19,6 +19,7 @@ from goo_service.common.owner import done_as_owner
 from goo_service.common.owner import remove
 from goo_service.copies import contents
 from goo_service.copies.contents import open_regular
+from goo_service.records import settings
 
 USER = 'goo-records'
 BOOK = Path(os.environ.get('GOO_BOOK') or '/var/lib/goo-records')
@@ -44,8 +45,9 @@ def place_beginning(copy: Path, n: int, configuration: Path) -> str:
         files: dict[str, BinaryIO] = {
             name: stack.enter_context(open_regular(copy / name)) for name in FILES}
         done_as_owner(BOOK, lambda: write_first(files))
-    write_whole(conf, '# How the book of acts begins (RECORDS.md)\n'
-                f'GOO_RECORDS_BEGIN=--copy {BOOK / FIRST} --after {n}\n', 0o644)
+    earlier = conf.read_text(encoding='utf-8') if conf.exists() else ''
+    begin = f'--copy {BOOK / FIRST} --after {n}'
+    write_whole(conf, settings.with_setting(earlier, settings.BEGIN, begin), 0o644)
     return f'{conf}: the book of acts begins with this copy, after entry {n}'
 
 

@@ -24,16 +24,18 @@ PARAMETERS: dict[str, tuple[str, ...]] = {
     'holders': PAGE,
     'withdrawals': PAGE,
     'undeclared': ('month', 'account', *PAGE),
+    'directory': PAGE,
+    'party': ('account', 'holder', 'peer'),
     'statistics': ('by', 'from', 'to', *SUMMED, *PAGE),
     **{name: ('account', *FILTERS.get(name, {}), 'sort', *PAGE) for name in LISTS},
     'acts/NUMBER': (),
     'certificates/NUMBER': (),
     'cancellations/NUMBER': (),
-    'documents': ('numbers',),
+    'documents': ('numbers', 'lang'),
     'doubts': (),
     'status': (),
     'openapi.yaml': (),
-    'verify': ('number', 'code'),
+    'verify': ('number', 'code', 'lang'),
 }
 FORMATS = ('csv', 'json')
 

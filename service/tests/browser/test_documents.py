@@ -1,73 +1,120 @@
-"""The document of a cancellation: on the screen, printed, and with odd names in it."""
+"""Documents of cancellations: on the screen, on paper, and checked by a stranger."""
 import re
+import subprocess
+from dataclasses import dataclass
+from pathlib import Path
 
+import pytest
 from browser import stage
 from browser.chromium import Browser
 from browser.conftest import Visit
+from house import BODY
 from house import House
 
-TURNED = 'Stadtwerke \u202enedlaW'
-"""What is written after the override is shown turned round, as `Walden`."""
-PARTS = ('.top', 'nav', '.buttons')
+RANGES = 170
+NAME = 'Żółw Energia Łódź & Αιολική'
 
 
-def cancelled(house: House, page: Browser, lot: stage.Lot, last: int, **fields: str) -> str:
-    """The number of a cancellation that the page made of a lot's first certificates."""
-    page.go(f'cancel/{lot.account}/{lot.number(0)}/{lot.number(last)}')
-    page.fill('cancel', **{'beneficiary': 'Stadtwerke Nordheim', 'use_first': '2024-10-01',
-                           'use_last': '2024-12-31', **fields})
-    found = re.search(r'cancellation (\d+)', page.send('cancel', sure=True))
-    assert found
-    return found[1]
+@dataclass(frozen=True)
+class Document:
+    """A document of anna's: its number and its check code."""
+
+    number: str
+    code: str
+    count: int
 
 
-def test_a_cancellation_has_its_document(house: House, visit: Visit) -> None:
-    lot = stage.issue(house, count=500)
-    page = visit(house, 'anna')
-    number = cancelled(house, page, lot, 499)
-    page.click('form.cancel .result a', 'Document')
-    told = page.text('article.sheet', 'Stadtwerke Nordheim')
-    assert '500 MWh of energy' in told and f'Cancellation {number}' in told
-    page.look('document')
-
-
-def test_a_document_is_printed_alone_on_one_page(house: House, visit: Visit) -> None:
-    lot = stage.issue(house, count=500)
-    number = stage.cancel(house, lot, 0, 499)['cancellation']
+@pytest.fixture(scope='module')
+def document(house: House) -> Document:
+    """Every second certificate of three lots, cancelled one by one for one use."""
+    account = stage.open_account(house)
+    places = (('DE', 'North field', 'T010000'), ('PL', 'Wieża Łódź', 'T020001'),
+              ('GR', 'Ωραία Θέα', 'T020002'))
+    lots = [stage.issue(house, count=120, account=account, country=country, site=site, tech=tech)
+            for country, site, tech in places]
+    numbers = [lot.number(at) for lot in lots for at in range(0, 120, 2)][:RANGES]
+    found = [stage.enter(house, 'cancel', 'SUN', account=account, first=number, last=number,
+                         beneficiary=NAME, use_first='2024-10-01', use_last='2025-02-28')
+             ['cancellation'] for number in numbers]
     house.wait_for_book()
-    page = visit(house, 'anna', f'document/{number}', 'article.sheet')
-    page.look('document-printed', widths=(794,), printed=True)
-    page.run('window.print = () => { window.printed = true }')
-    page.click('main .buttons button', 'Print')
-    assert page.run('return window.printed === true')
-    page.set_media(media='print')
-    seen = [page.run('return document.querySelector(arguments[0]).checkVisibility()', css)
-            for css in (*PARTS, '.sheet')]
-    assert seen == [False, False, False, True]
-    assert page.pdf().count(b'/Type /Page\n') == 1
+    path = f'/records/v1/documents?numbers={found[0]}-{found[-1]}'
+    of = house.ask('anna', 'GET', path).json
+    return Document(of['number'], of['code'], len(found))
 
 
-def test_a_mark_that_turns_a_name_round_does_not_act(house: House, visit: Visit) -> None:
-    """It is asked about before it is sent, kept as it came, and shown by its code."""
-    lot = stage.issue(house)
-    page = visit(house, 'anna', f'cancel/{lot.account}/{lot.number(0)}/{lot.number(1)}')
-    page.fill('cancel', beneficiary=TURNED, use_first='2024-01-01', use_last='2024-12-31')
-    page.click('form.cancel button[type=submit]')
-    told = page.text('dialog[open] .doubts')
-    assert 'U+202E right-to-left override' in told and 'longer' not in told
-    page.click('dialog[open] button.main')
-    found = re.search(r'cancellation (\d+)', page.text('form.cancel .result', 'cancellation'))
-    assert found
-    page.go(f'document/{found[1]}', 'article.sheet')
-    text = page.see('article.sheet').get_attribute('textContent') or ''
-    assert '\u202e' not in text and text.count('Stadtwerke U+202EnedlaW') == 2
-    assert 'right-to-left override' in text and len(page.all('.sheet bdi')) >= 2
-    page.look('document-odd')
-    assert TURNED in house.ask('anna', 'GET', f'/v1/cancellations/{found[1]}').text
+def open_check(page: Browser, number: str = '', code: str = '', lang: str = 'en') -> None:
+    """The page of the public check, by the address of a QR code where a code is given."""
+    page.load_path('/verify.html')
+    page.run(f"localStorage.setItem('goo/language', '{lang}')")
+    page.load_path(f'/verify.html?number={number}&code={code}' if code else '/verify.html')
 
 
-def test_a_document_is_headed_by_the_registrys_own_number(house: House, visit: Visit) -> None:
-    number = stage.cancel(house, stage.issue(house), 0, 9)['cancellation']
-    house.wait_for_book()
-    page = visit(house, 'anna', f'document/000{number}', 'article.sheet')
-    assert page.text('article.sheet h1') == f'Cancellation {number}'
+def test_a_document_has_one_number_and_is_read_at_a_glance(house: House, visit: Visit,
+                                                           document: Document) -> None:
+    page = visit(house, 'anna', f'document/{document.number}', 'article.sheet')
+    said = page.text('article.sheet')
+    for text in (document.number, document.code, f'{RANGES} MWh', NAME, BODY, 'Poland PL',
+                 'Wieża Łódź', 'Ωραία Θέα', 'Greece GR'):
+        assert text in said, text
+    rows = page.cells('.sheet table:nth-of-type(1) tbody tr')
+    assert [row[3] for row in rows] == ['60', '50', '60', '170']
+    page.look('document-many')
+
+
+def test_a_stranger_checks_by_the_qr_codes_address(house: House, visit: Visit,
+                                                   document: Document, tmp_path: Path) -> None:
+    page = visit(house, 'anna', f'document/{document.number}', 'article.sheet')
+    (tmp_path / 'paper.pdf').write_bytes(page.pdf())
+    subprocess.run(['pdftoppm', '-r', '150', '-png', tmp_path / 'paper.pdf', tmp_path / 'page'],
+                   check=True)
+    first = sorted(tmp_path.glob('page-*.png'))[0]
+    read = subprocess.run(['zbarimg', '--quiet', '--raw', first], check=True, capture_output=True,
+                          text=True).stdout.strip()
+    plain = document.code.replace('-', '')
+    assert read == f'{page.origin}/verify.html?number={document.number}&code={plain}'
+    stranger = visit(house, '')
+    stranger.load_path(read.removeprefix(page.origin), 'article.sheet')
+    said = stranger.text('article.sheet', f'{RANGES} MWh')
+    assert 'They belong together' in stranger.text('.result.good') and NAME in said
+    stranger.look('verify')
+    open_check(stranger, document.number, plain, 'de')
+    assert 'Sie gehören zusammen' in stranger.text('.result.good')
+    assert f'{RANGES} MWh Energie, genutzt von 2024-10-01 bis 2025-02-28 durch {NAME}' in (
+        stranger.text('article.sheet'))
+    stranger.look('verify-german')
+
+
+def test_each_printed_page_has_number_code_and_page(house: House, visit: Visit,
+                                                    document: Document, tmp_path: Path) -> None:
+    page = visit(house, 'anna', f'document/{document.number}', 'article.sheet')
+    (tmp_path / 'paper.pdf').write_bytes(page.pdf())
+    text = subprocess.run(['pdftotext', '-layout', tmp_path / 'paper.pdf', '-'], check=True,
+                          capture_output=True, text=True).stdout
+    pages = text.split('\f')[:-1]
+    assert len(pages) > 1
+    for at, one in enumerate(pages, 1):
+        foot = f'Document {document.number}, check code {document.code}'
+        assert foot in one and re.search(rf'page {at} of {len(pages)}\n', one), one
+    page.go('history', 'table')
+    (tmp_path / 'other.pdf').write_bytes(page.pdf())
+    other = subprocess.run(['pdftotext', tmp_path / 'other.pdf', '-'], check=True,
+                           capture_output=True, text=True).stdout
+    assert document.code not in other
+
+
+def test_a_stranger_types_a_number_and_a_code(house: House, visit: Visit,
+                                              document: Document) -> None:
+    page = visit(house, '')
+    open_check(page)
+    page.fill('verify', number=document.number.replace('-', ' – '),
+              code=document.code.lower().replace('-', ' '))
+    page.click('form.verify button.main')
+    assert 'They belong together' in page.text('.result.good')
+    page.forget('.result, article.sheet')
+    wrong = document.code[:-1] + ('A' if document.code[-1] != 'A' else 'B')
+    page.fill('verify', code=wrong)
+    page.click('form.verify button.main')
+    assert page.text('.result.bad', 'do not belong together') and not page.all('article.sheet')
+    page.fill('verify', number='forty-two')
+    page.click('form.verify button.main')
+    assert page.text('.result.bad', 'Not readable')
