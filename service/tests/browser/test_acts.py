@@ -24,7 +24,7 @@ def test_a_statements_row_is_transferred_after_a_question(house: House, visit: V
     page.click('td a', 'transfer')
     page.see('h1', 'Transfer')
     assert page.value('form.transfer [name=first]') == lot.number(0)
-    page.fill('transfer', taker=str(taker), last=lot.number(299))
+    page.fill('transfer', taker=str(taker), taker_holder='VOLT', last=lot.number(299))
     assert page.text('.size', '300 ce') == '300 certificates, 300 MWh'
     before = house.entry()
     page.click('form.transfer button[type=submit]')
@@ -42,7 +42,8 @@ def test_a_refusal_names_the_certificate(house: House, visit: Visit) -> None:
     stage.enter(house, 'transfer', 'SUN', giver=lot.account, taker=taker, first=lot.number(200),
                 last=lot.number(209))
     page = visit(house, 'anna', f'transfer/{lot.account}')
-    page.fill('transfer', taker=str(taker), first=lot.number(100), last=lot.number(399))
+    page.fill('transfer', taker=str(taker), taker_holder='VOLT', first=lot.number(100),
+              last=lot.number(399))
     told = page.send('transfer', sure=True)
     assert 'NotHeld (17)' in told and lot.number(200) in re.sub(r'\s', '', told)
     page.look('transfer')
@@ -55,7 +56,7 @@ def test_the_question_before_a_transfer_names_both_holders(house: House, visit: 
                 last=lot.number(-1))            # who has dealt with an account knows its holder
     house.wait_for_book()
     page = visit(house, 'anna', f'transfer/{lot.account}/{lot.number(0)}/{lot.number(0)}')
-    page.fill('transfer', taker=str(taker))
+    page.fill('transfer', taker=str(taker), taker_holder='VOLT')
     page.click('form.transfer button[type=submit]')
     asked = page.text('dialog[open]', 'can’t be taken back')
     assert 'SUN, Sun Power GmbH' in asked and 'VOLT, Volt Handel AG' in asked

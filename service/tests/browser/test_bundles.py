@@ -39,7 +39,7 @@ def test_a_quantity_is_transferred(house: House, visit: Visit) -> None:
     world, page = made(house), visit(house, 'anna')
     own, others = counts(house, world)
     begin(house, page, world.account, '1,000', 'the oldest', 'Transfer')
-    page.fill('bundle', taker=str(world.other))
+    page.fill('bundle', taker=str(world.other), taker_holder='VOLT')
     page.look('selection', dark=True)
     page.click('form.bundle button.main', 'Transfer 1,000')
     asked = page.text('dialog[open]', 'can’t be taken back')
@@ -62,7 +62,7 @@ def test_a_selection_goes_on_after_a_lost_answer(house: House, visit: Visit) -> 
     told = page.text('.chosen', 'certificates chosen in')
     chosen = int(told.split()[0].replace(',', ''))
     page.click('.chosen button', 'Transfer')
-    page.fill('bundle', taker=str(world.other))
+    page.fill('bundle', taker=str(world.other), taker_holder='VOLT')
     page.click('form.bundle button.main', 'Transfer')
     page.forget('main .result')
     with Relay(house, ['passed', 'passed', 'unheard']) as relay:

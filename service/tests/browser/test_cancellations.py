@@ -70,4 +70,4 @@ def test_a_document_is_headed_by_the_registrys_own_number(house: House, visit: V
     number = stage.cancel(house, stage.issue(house), 0, 9)['cancellation']
     house.wait_for_book()
     page = visit(house, 'anna', f'document/000{number}', 'article.sheet')
-    assert page.text('article.sheet h1') == f'Cancellation {number}'
+    assert page.text('article.sheet h1') == f'Document of cancellation 07-{number}-1'

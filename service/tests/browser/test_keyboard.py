@@ -91,9 +91,10 @@ def test_lots_are_filtered_chosen_and_transferred(house: House, world: stage.Wor
 def transfer(house: House, world: stage.World, hands: Hands, chosen: int) -> None:
     """A question that is left gives the focus back; one that is there keeps it."""
     page, before = hands.page, stage.held(house, world.account)
-    hands.press('form.bundle [name=taker]', key=f'{world.other}\n')
+    hands.press('form.bundle [name=taker]', key=str(world.other))
+    hands.press('form.bundle [name=taker_holder]', key='VOLT\n')
     hands.leave_question()
-    assert hands.is_at('form.bundle [name=taker]')
+    assert hands.is_at('form.bundle [name=taker_holder]')
     hands.press('form.bundle button.main', 'Transfer')
     hands.leave_question()
     assert hands.is_at('form.bundle button.main')

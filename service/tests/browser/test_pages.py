@@ -13,7 +13,7 @@ LISTS = ('devices', 'declarations', 'corrections', 'cancellations', 'withdrawals
 OF_HOLDER = {
     '': 'Ihre Konten', 'holdings/{account}': 'Bestand', 'holdings/{account}/by=tech': 'Bestand',
     'deadlines': 'Fristen', 'history': 'Verlauf', 'act/{act}': 'Vorgang',
-    'document/{number}': 'Entwertung', 'account/{account}': 'Konto',
+    'document/{number}': 'Entwertungsnachweis 07-', 'account/{account}': 'Konto',
     'look-up/{first}': 'Nachschlagen', 'cancel': 'Entwerten', 'export': 'Exportieren',
     'transfer': 'Übertragen', **{f'lists/{name}': '' for name in LISTS}}
 OF_ISSUER = {
