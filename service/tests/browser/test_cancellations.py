@@ -25,9 +25,10 @@ def test_a_cancellation_has_its_document(house: House, visit: Visit) -> None:
     lot = stage.issue(house, count=500)
     page = visit(house, 'anna')
     number = cancelled(house, page, lot, 499)
+    house.wait_for_book()           # until then the registry's own is shown
     page.click('form.cancel .result a', 'Document')
     told = page.text('article.sheet', 'Stadtwerke Nordheim')
-    assert '500 MWh of energy' in told and f'Cancellation {number}' in told
+    assert '500 MWh of energy' in told and f'Document of cancellation 07-{number}-1' in told
     page.look('document')
 
 
@@ -58,6 +59,7 @@ def test_a_mark_that_turns_a_name_round_does_not_act(house: House, visit: Visit)
     page.click('dialog[open] button.main')
     found = re.search(r'cancellation (\d+)', page.text('form.cancel .result', 'cancellation'))
     assert found
+    house.wait_for_book()
     page.go(f'document/{found[1]}', 'article.sheet')
     text = page.see('article.sheet').get_attribute('textContent') or ''
     assert '\u202e' not in text and text.count('Stadtwerke U+202EnedlaW') == 2
