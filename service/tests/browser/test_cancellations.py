@@ -63,7 +63,8 @@ def test_a_mark_that_turns_a_name_round_does_not_act(house: House, visit: Visit)
     page.go(f'document/{found[1]}', 'article.sheet')
     text = page.see('article.sheet').get_attribute('textContent') or ''
     assert '\u202e' not in text and text.count('Stadtwerke U+202EnedlaW') == 2
-    assert 'right-to-left override' in text and len(page.all('.sheet bdi')) >= 2
+    assert 'cannot be seen' in text and text.count('U+202E') == 3
+    assert len(page.all('.sheet bdi')) >= 2
     page.look('document-odd')
     assert TURNED in house.ask('anna', 'GET', f'/v1/cancellations/{found[1]}').text
 
