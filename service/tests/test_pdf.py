@@ -133,7 +133,10 @@ def test_the_qr_code_of_the_pdf_is_the_address(made: Made, tmp_path: Path) -> No
     assert done.stdout.strip() == paper_of(made, '1-40')['address']
 
 
-HOSTILE = strategies.text(strategies.characters(blacklist_categories=['Cs']), max_size=30)
+MARKUP = ('<b>x</b>', '</style><script>', '"><img src=x>', '</p>', '<!--', "'>", '&lt;b&gt;',
+          '{} %s')
+HOSTILE = strategies.lists(strategies.sampled_from(MARKUP) | strategies.text(
+    strategies.characters(blacklist_categories=['Cs']), max_size=9), max_size=4).map(''.join)
 
 
 @settings(max_examples=200)
