@@ -5,7 +5,7 @@ import {PLACES} from './charts.js';
 import {ways} from './bundles.js';
 import {chosen, toolbar} from './chosen.js';
 import {t} from './language.js';
-import {listing, csvLink, stands} from './listing.js';
+import {listing, fileLinks, stands} from './listing.js';
 import {coded, wordFor} from './paper.js';
 import {asked, everyItem} from './records.js';
 import {session} from './session.js';
@@ -40,7 +40,7 @@ export async function deadlines() {
   {kind: of.next === 'trade' ? 'kept' : 'expired'});
   return [h('h1', {}, t`Deadlines`), h('p', {class: 'lead'}, t`Certificates can be transferred and exported for 12 months after their period, and cancelled for 18 months. These are the lots with a deadline within ${DAYS} days.`),
     answer.items.length ? longTable(stands(answer), columns, answer.items.map(row)) : h('p', {class: 'quiet'}, t`No deadline within ${DAYS} days.`),
-    answer.items.length ? h('div', {class: 'buttons'}, csvLink('deadlines', {days: DAYS})) : null];
+    answer.items.length ? h('div', {class: 'buttons'}, fileLinks('deadlines', {days: DAYS})) : null];
 }
 
 // ------------------------------------------------------------------ holdings

@@ -19,6 +19,7 @@ from goo_service.log.archive import Archive
 from goo_service.records import schema
 from goo_service.records import web
 from goo_service.records.book import Book
+from goo_service.records.parameters import page_parameter
 from goo_service.records.registry import WatchedRegistry
 from model import CODES
 from model import Model
@@ -146,7 +147,7 @@ class Made:
             found += answer['items']
             if answer['next'] is None:
                 return found
-            more['before' if name == 'acts' else 'offset'] = answer['next']
+            more[page_parameter(name)] = answer['next']
 
     def acts(self, caller: str = ISSUER, **parameters: object) -> list[dict[str, Any]]:
         """The acts that a caller sees, the newest first."""

@@ -39,7 +39,8 @@ def made(tmp_path: Path) -> Made:
 @pytest.mark.parametrize('route', parameters.PARAMETERS)
 def test_a_parameter_that_no_route_has_is_named(made: Made, route: str) -> None:
     given = NEEDED.get(route, {})
-    for name in ('tecnology', 'Account', 'limit ', 'before' if route != 'acts' else 'offset'):
+    other = {'acts': 'offset', 'holdings': 'after'}.get(route, 'before')
+    for name in ('tecnology', 'Account', 'limit ', other):
         status, answer = made.asked(ISSUER, path_of(route), **given, **{name: '1'})
         assert status == 400
         assert repr(name) in answer['error']

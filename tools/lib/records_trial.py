@@ -11,6 +11,7 @@ sys.path[:0] = [str(TOP / 'service')]
 import tally
 from mutations import gsrn, lot, part
 from goo_service.common.rules import ISSUER, Registry, Wrong, months_after
+from goo_service.records.parameters import page_parameter
 from service_commands import command
 from service_commands import SERVICE
 
@@ -168,7 +169,7 @@ class Service:
             found += answer['items']
             if not answer.get('next'):
                 return found
-            more = {'before' if name == 'acts' else 'offset': answer['next']}
+            more = {page_parameter(name): answer['next']}
 
 
 def follow(archive, into, *more, begun=(str(CODE), TODAY, '1'), service=SERVICE):

@@ -39,12 +39,12 @@ test('a notice tells its way and what became of it', async () => {
 });
 
 test('the next page is asked from where this one ends, and the page before from where it began', async () => {
-  const {page, sent} = await drawn('withdrawals', {number: 1, day: '2025-03-01', act: 4, count: 3, first: null, reason: 'x'}, 100);
+  const {page, sent} = await drawn('withdrawals', {number: 1, day: '2025-03-01', act: 4, count: 3, first: null, reason: 'x'}, 'b');
   const press = async (name) => { [...page.getElementsByTagName('button')].find((of) => of.textContent === name).click(); for (let turns = 0; turns < 5; turns++) await soon(); };
   await press('Next page');
   await press('Next page');
   await press('Page before');
-  assert.deepEqual(sent.map(({path}) => new URL(path, 'https://x').searchParams.get('offset')), [null, '100', '100', '100']);
+  assert.deepEqual(sent.map(({path}) => new URL(path, 'https://x').searchParams.get('after')), [null, 'b', 'b', 'b']);
   assert.ok(sent.every(({path}) => path.includes('limit=100')));
 });
 
