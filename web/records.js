@@ -46,6 +46,22 @@ export async function asked(name, parameters, tries = 30) {
   throw new Unread(await problemOf(answer));
 }
 
+/** What the records say of a table that is not sent yet. */
+export async function askedOf(name, table, parameters, kind = 'text/csv', tries = 30) {
+  const ask = async () => {
+    const answer = await fetch(pathOf(name, parameters), {method: 'POST', body: table, headers: {'Content-Type': kind}, cache: 'no-store'});
+    return [answer, answer.ok ? await answer.json() : null];
+  };
+  let answer, found;
+  try { [answer, found] = await inTurn(ask); } catch { throw new Unread(words.unread(0)); }
+  if (answer.ok) return found;
+  if (answer.status === 429 && Number(answer.headers.get('Retry-After') ?? 0) <= words.LONG_WAIT && tries > 1) {
+    await pause(1000);
+    return askedOf(name, table, parameters, kind, tries - 1);
+  }
+  throw new Unread(await problemOf(answer));
+}
+
 /** Waits until the records tell of this entry of the log, or of the last one that this page has made: they are a second behind it at most. */
 export async function followed(entry = last.entry) {
   for (let tries = 60; entry > 0 && (await asked('status')).stands.entry < entry && tries > 0; tries--) await pause(500);
@@ -62,7 +78,7 @@ const PAGE = 1000;
 /** By what holdings are told, and the sum that says how many of them there are. */
 const IN_ALL = {lot: 'lots', run: 'runs'};
 /** The parameter that takes the `next` of a page: sums count rows, acts their ids, and other lists go on behind a row. */
-const GOES_ON = {acts: 'before', holdings: 'offset', deadlines: 'offset', statistics: 'offset'};
+const GOES_ON = {acts: 'before', holdings: 'offset', deadlines: 'offset', statistics: 'offset', undeclared: 'offset'};
 /** What asks for the page that begins there; the first one where `next` is none. */
 export const pageFrom = (name, next) => next === null ? {} : {[GOES_ON[name] ?? 'after']: next};
 

@@ -114,17 +114,20 @@ def test_no_spelling_of_such_a_move_goes_by(body: bytes) -> None:
 
 # ------------------------------------------------------------------ a holder's day
 
-@pytest.mark.parametrize(('caller', 'sent', 'size', 'status'), [
-    ('SUN', 0, 33_554_432, None), ('SUN', 33_554_431, 1, None), ('SUN', 33_554_432, 1, 429),
-    ('SUN', 33_554_000, 1_000, 429), ('ISSUER', 99_999_999, 1_000_000, None),
+@pytest.mark.parametrize(('caller', 'sent', 'by_user', 'size', 'most'), [
+    ('SUN', 67_108_863, 0, 1, None), ('SUN', 67_108_864, 0, 1, 67_108_864),
+    ('SUN', 67_108_000, 0, 1_000, 67_108_864), ('SUN', 0, 16_777_215, 1, None),
+    ('SUN', 16_777_216, 16_777_216, 1, 16_777_216), ('ISSUER', 99_999_999, 99_999_999, 9, None),
 ])
-def test_the_bytes_of_a_holder_in_a_day(caller: str, sent: int, size: int,
-                                        status: int | None) -> None:
-    found = bounds.of_day(caller, sent, size, datetime.datetime(2026, 3, 1, 22, 58, 59))
-    assert status_of(found) == status
+def test_the_bytes_of_a_holder_and_of_a_user_in_a_day(caller: str, sent: int, by_user: int,
+                                                      size: int, most: int | None) -> None:
+    """Whoever has used up his own bytes leaves three quarters of them to his colleagues."""
+    evening = datetime.datetime(2026, 3, 1, 22, 58, 59)
+    found = bounds.of_day(caller, sent, by_user, size, evening)
+    assert status_of(found) == (429 if most else None)
     if found:
         assert found.fields == {'Retry-After': '3661'}
-        assert caller in found.error and '33554432' in found.error
+        assert caller in found.error and f'at most {most} bytes' in found.error
 
 
 def test_a_day_is_over_in_a_second_at_least() -> None:

@@ -23,6 +23,8 @@ OPERATIONS = pytest.mark.parametrize('operation', RECORDS.operations,
 CALLERS = strategies.sampled_from([ISSUER, 'SUN', 'VOLT', 'STRANGER'])
 THERE = {'account': '1', 'count': '3', 'numbers': '1', 'number': '1'}
 """Parameters that an operation needs, of what is there."""
+TABLES = {'doubts': HEADER + b'k1,%b,2026-07-01,2026-07-31,5,0\n' % DEVICE.encode()}
+"""What an operation is sent that takes a table."""
 QUICK = settings(max_examples=40, derandomize=True, suppress_health_check=list(HealthCheck))
 
 
@@ -86,7 +88,8 @@ def test_answers_are_as_they_are_described(made: Made, known: dict[str, list[str
     client = made.client()
 
     def ask(path: str, query: dict[str, str], caller: str) -> int:
-        answer = client.get(path, query_string=query, headers={'GOO-Caller': caller})
+        answer = client.open(path, method=operation.method.upper(), query_string=query,
+                             headers={'GOO-Caller': caller}, data=TABLES.get(operation.name))
         kind, body = answer.headers['Content-Type'], answer.get_data()
         answer.close()
         assert RECORDS.fault(operation, answer.status_code, kind, body) is None

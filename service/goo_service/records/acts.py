@@ -25,7 +25,8 @@ from goo_service.records.schema import searched
 RANGES = 20
 """Ranges that are shown with an act in a list; the act by itself has all."""
 ACT_FILTERS = {name: f'act.{name} = ?' for name in
-               ('kind', 'outcome', 'refusal', 'caller', 'user', 'role', 'device', 'peer', 'number')}
+               ('kind', 'outcome', 'refusal', 'caller', 'user', 'role', 'device', 'peer', 'number',
+                'bundle')}
 OWN_ALONE = ('user', 'role', 'key')
 """Members of an act that its own side and the issuing body see. Nobody else finds it by them."""
 FEW, MOST_THREES = 20_000, 60
@@ -74,7 +75,7 @@ def start_of(database: sqlite3.Connection, viewer: Viewer, given: Given,
     touched = FEW if account is None else count_of(database, 'touched', 'account', account)
     seen = FEW if viewer.sees_all else count_of(database, 'seen', 'viewer', viewer.caller)
     others = min((count_of(database, 'act', name, given[name])
-                  for name in ('kind', 'device', 'key') if given.get(name)), default=FEW)
+                  for name in ('kind', 'device', 'key', 'bundle') if given.get(name)), default=FEW)
     if text and min(span, touched, seen, others) >= FEW:
         if letters := letters_of(database, text):
             of_text = 'word MATCH ?', (letters,)

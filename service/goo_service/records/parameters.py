@@ -25,6 +25,7 @@ PARAMETERS: dict[str, tuple[str, ...]] = {
     'choice': ('count', 'order', 'act', *HELD, 'format'),
     'holders': ('holder', 'q', *BEHIND),
     'withdrawals': BEHIND,
+    'undeclared': ('month', 'account', *PAGE),
     'statistics': ('by', 'from', 'to', *SUMMED, *PAGE),
     **{name: ('account', *of.filters, *(('q',) if of.found else ()), *BEHIND)
        for name, of in LISTS.items()},
@@ -32,6 +33,7 @@ PARAMETERS: dict[str, tuple[str, ...]] = {
     'certificates/NUMBER': (),
     'cancellations/NUMBER': (),
     'documents': ('numbers',),
+    'doubts': (),
     'status': (),
     'openapi.yaml': (),
     'verify': ('number', 'code'),

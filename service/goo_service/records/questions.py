@@ -27,7 +27,7 @@ FILES = {'csv': 100_000, 'csv-bom': 100_000, 'xlsx': 50_000}
 """The kinds of files, and the most rows of each."""
 DAYS = ('from', 'to', 'expires_before', 'commissioned_from', 'commissioned_to')
 """Parameters that are days."""
-WHOLE = ('account', 'peer', 'number', 'origin', 'capacity_from', 'capacity_to')
+WHOLE = ('account', 'peer', 'number', 'origin', 'bundle', 'capacity_from', 'capacity_to')
 """Filters that are whole numbers."""
 WORDS = {'kind': (*KINDS.values(), 'expiry', 'unreadable'),
          'outcome': ('accepted', 'refused', 'unreadable', 'set aside')}

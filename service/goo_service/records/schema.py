@@ -6,7 +6,7 @@ from goo_service.common.rules import LOT
 from goo_service.common.rules import PLANT
 from goo_service.records.folding import fold
 
-FORM = 6
+FORM = 7
 """Of these tables, and of what entries leave in them: it rises with each change of the tables, of
 the rules or of the book. A book of another form is made anew, and nothing is read from it until
 then."""
@@ -27,7 +27,8 @@ CREATE TABLE act (
     id INTEGER PRIMARY KEY, entry INTEGER NOT NULL, line INTEGER NOT NULL, rows INTEGER NOT NULL,
     lines TEXT, time TEXT, user TEXT, role TEXT, caller TEXT NOT NULL, day TEXT NOT NULL,
     kind TEXT NOT NULL, outcome TEXT NOT NULL, refusal TEXT, key TEXT, holder TEXT, giver INTEGER,
-    taker INTEGER, device TEXT, peer INTEGER, number INTEGER, wh INTEGER, note TEXT) STRICT;
+    taker INTEGER, device TEXT, peer INTEGER, number INTEGER, wh INTEGER, note TEXT,
+    bundle INTEGER) STRICT;
 CREATE INDEX act_by_key ON act (key);
 CREATE TABLE seen (viewer TEXT, act INTEGER, PRIMARY KEY (viewer, act)) STRICT, WITHOUT ROWID;
 CREATE TABLE touched (account INTEGER, act INTEGER, PRIMARY KEY (account, act))
@@ -80,6 +81,7 @@ shows `imported`: it has the notices that the rules have to know again. `folded`
 site or the beneficiary of its row, as it is looked for and sorted (folding.py)."""
 INDEXES = """
 CREATE INDEX act_by_kind ON act (kind, id);
+CREATE INDEX act_by_bundle ON act (bundle, id) WHERE bundle IS NOT NULL;
 CREATE INDEX act_by_device ON act (device, id) WHERE device IS NOT NULL;
 CREATE INDEX moved_by_act ON moved (act, first);
 CREATE INDEX run_by_account ON run (account, kind, first);

@@ -27,9 +27,11 @@ from flask import request
 
 from goo_service.common.rules import ISSUER
 from goo_service.common.rules import PLACES
+from goo_service.log.bounds import BODY
 from goo_service.records import acts
 from goo_service.records import certificates
 from goo_service.records import documents
+from goo_service.records import doubts
 from goo_service.records import lists
 from goo_service.records.files import BYTE_ORDER
 from goo_service.records.files import csv_of
@@ -112,6 +114,7 @@ class Timed(sqlite3.Connection):
 ListOf = Callable[[sqlite3.Connection, Viewer, Given], Listed]
 OneOf = Callable[[sqlite3.Connection, Viewer, int], Row]
 OtherOf = Callable[[sqlite3.Connection, Viewer, Given], Row]
+PostedOf = Callable[[sqlite3.Connection, Viewer, Given, bytes], Row]
 Answer = Response | Listed | Row
 
 
@@ -151,13 +154,14 @@ class Service:
             'acts': acts.acts, 'holdings': certificates.holdings,
             'deadlines': certificates.deadlines, 'choice': certificates.choice,
             'holders': lists.holders, 'withdrawals': lists.withdrawals,
-            'statistics': lists.statistics,
+            'statistics': lists.statistics, 'undeclared': doubts.undeclared,
             **{name: functools.partial(lists.listed, name) for name in lists.LISTS},
             'notices': self.notices}
         self.ones: dict[str, OneOf] = {
             'acts': acts.act, 'certificates': certificates.certificate,
             'cancellations': self.cancellation}
         self.others: dict[str, OtherOf] = {'status': status, 'documents': self.documents}
+        self.posted: dict[str, PostedOf] = {'doubts': doubts.doubts}
 
     @functools.cached_property
     def key(self) -> bytes:
@@ -255,6 +259,16 @@ class Service:
         finally:
             self.files.release()
 
+    def table(self, name: str) -> Response:
+        """The answer to a table that is sent to be looked at. Nothing of it is kept."""
+        if name not in self.posted:
+            return reply(405, {'error': 'the records are only read'})
+        if (request.content_length or 0) > BODY:
+            return reply(413, {'error': f'a table has {BODY:,} bytes at most'})
+        body = request.get_data(cache=False)
+        return self.for_viewer(name, lambda database, viewer, given:
+                               self.posted[name](database, viewer, given, body))
+
     # ---------------------------------------------------------------- routes with more than a book
 
     def notices(self, database: sqlite3.Connection, viewer: Viewer, given: Given) -> Listed:
@@ -334,6 +348,10 @@ def application(folder: Path | None = None, exchange: Path | None = None,
             return reply(404, {'error': f'there is no {name}'})
         return service.for_viewer(f'{name}/NUMBER', lambda database, viewer, _:
                                   service.ones[name](database, viewer, number))
+
+    @app.post('/records/v1/<name>')
+    def a_table(name: str) -> Response:
+        return service.table(name)
 
     app.get('/records/v1/openapi.yaml')(description)
     app.get('/verify')(service.verified)

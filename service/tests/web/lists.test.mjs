@@ -25,7 +25,7 @@ test('a cancellation is listed with its beneficiary and its own numbers', async 
 });
 
 test('a declaration counts its certificates by their numbers', async () => {
-  const of = {day: '2025-03-01', act: 4, device: '500000000000000012', first_day: '2025-01-01', last_day: '2025-01-31', gross_wh: 5_000_001, aux_wh: 1, corrected_wh: 0, first: '07000000000001', last: '07000000000005', key: 'c1'};
+  const of = {day: '2025-03-01', act: 4, device: '500000000000000012', site: 'North', first_day: '2025-01-01', last_day: '2025-01-31', gross_wh: 5_000_001, aux_wh: 1, corrected_wh: 0, first: '07000000000001', last: '07000000000005', key: 'c1'};
   const {row} = await drawn('declarations', of);
   assert.deepEqual([row.Count, row['Gross in Wh'], row['Auxiliaries in Wh'], row.Certificates, row.Key], ['5', '5,000,001', '1', '07000000000001 to 07000000000005', 'c1']);
   assert.equal((await drawn('declarations', {...of, first: null, last: null})).row.Count, '0');
