@@ -9,6 +9,7 @@ import {aboutName, aboutUse} from './doubts.js';
 import {field, named, sure} from './forms.js';
 import {known, t} from './language.js';
 import {asList} from './paper.js';
+import {askable, factsOf, partnerOf, sendable} from './partner.js';
 import {asked, everyItem, holderOf} from './records.js';
 import {bodyOf, newKey, pause, send} from './registry.js';
 import {session} from './session.js';
@@ -197,19 +198,21 @@ const takenTable = (runs) => longTable(t`${count(runs.length)} runs`, [[t`Certif
   [between(number(of.first), number(of.last)), count(of.count), `${of.site} ${of.device}`, between(of.first_day, of.last_day)]));
 
 function bundleForm(command, account, runs, ranges) {
-  const all = commonFields(command).map((spec) => field(spec)), shown = h('div', {'aria-live': 'polite', tabindex: '-1'}), {title, act} = COMMANDS[command];
+  const all = askable(commonFields(command)).map((spec) => field(spec)), shown = h('div', {'aria-live': 'polite', tabindex: '-1'}), {title, act} = COMMANDS[command];
   const button = h('button', {type: 'submit', class: 'main'}, t(act), ' ', count(sum(ranges)));
   const onsubmit = async (event) => {
     event.preventDefault();
     const wrong = all.filter((f) => f.error());
     if (wrong.length) { wrong[0].box.focus(); return; }
-    const values = Object.fromEntries(all.map((f) => [f.name, f.value()])), given = all.map((f) => [f.label, String(f.value()), f.kind]);
+    const values = Object.fromEntries(sendable(all).map((f) => [f.name, f.value()])), given = factsOf(all);
     const doubts = [...all.filter((f) => f.kind === 'name').flatMap((f) => aboutName(f.label, f.value())), ...(command === 'cancel' && values.use_last >= values.use_first ? aboutUse(values, runs) : [])];
     await busy(button, () => meant(values, given, doubts).catch((fault) => shown.replaceChildren(result(problemOf(fault)))));
   };
   const meant = async (values, given, doubts) => {
+    const partner = await partnerOf(command, Object.fromEntries(all.map((f) => [f.name, f])));
+    if (partner.stop) { partner.stop.box.focus(); return; }
     const asking = await named([...(GIVER[command] ? [[t`From account`, String(account), 'account']] : []), ...given, [t`Certificates`, count(sum(ranges))], [t`Requests, one a range`, count(ranges.length)]]);
-    if (!await sure(t(title), t(act), {facts: asking, doubts, final: true})) return;
+    if (!await sure(t(title), t(act), {facts: asking, notes: partner.notes, doubts, final: true})) return;
     const bundle = bundleOf(command, {...(GIVER[command] ? {[GIVER[command]]: account} : {}), ...values}, ranges, `${t(title)}: ${[[t`Certificates`, count(sum(ranges))], ...given].map(([n, v]) => `${known(n)} ${v}`).join(', ')}`);
     chosen.clear();
     form.querySelectorAll('input, button').forEach((e) => { e.disabled = true; });

@@ -3,21 +3,21 @@
 import {h, table, facts, written, number, between, count, place, result, save, special, printButton, textButton} from './dom.js';
 import {ask} from './forms.js';
 import {life} from './history.js';
-import {t} from './language.js';
+import {language, t} from './language.js';
 import {LISTS, coded, sheet} from './paper.js';
 import {asked, records} from './records.js';
 import {read} from './registry.js';
 import * as texts from './texts.js';
 
-const MANY = /^[0-9]{1,9}(-[0-9]{1,9})?(,[0-9]{1,9}(-[0-9]{1,9})?)*$/;
+const MANY = /^[0-9]{1,9}(-[0-9]{1,9}){0,2}(,[0-9]{1,9}(-[0-9]{1,9})?)*$/;
 
 /** The document of one cancellation or of several, with all facts of its lots and the check code, by the records of acts. */
 async function wholePaper(numbers) {
-  const {items, text, code} = await asked('documents', {numbers}), [first] = items, own = items.map((of) => of.number);
+  const {number, items, text, paper: of} = await asked('documents', {numbers, lang: language}), [first] = items;
   return [
-    h('div', {class: 'buttons'}, printButton({class: 'main'}), textButton(`cancellation-${String(first.registry).padStart(2, '0')}-${own[0]}${own.length > 1 ? `-and-${own.length - 1}-more` : ''}`, text),
+    h('div', {class: 'buttons'}, printButton({class: 'main'}), textButton(`cancellation-${number.replaceAll(',', '_').slice(0, 60)}`, text),
       h('a', {href: `#account/${first.account}`}, t`Back to the account`)),
-    sheet(items, code),
+    sheet(of),
   ];
 }
 

@@ -22,6 +22,10 @@ hypothesis.settings.register_profile('goo', database=None, deadline=None, print_
 hypothesis.settings.load_profile('goo')
 
 
+collect_ignore = [] if os.environ.get('GOO_ON_HOST') else ['hosts']
+"""Those tests are for a host of their own, where tools/lib/hosts.py runs them."""
+
+
 def pytest_addoption(parser: pytest.Parser) -> None:
     parser.addoption('--slow', action='store_true', help='runs the tests of minutes too')
     parser.addoption('--pictures', metavar='FOLDER', help='keeps pictures of the page there')

@@ -46,6 +46,8 @@ ISSUER = 'ISSUER'
 MORE_USERS = ('audit ISSUER reads', 'meter ISSUER declares')
 PARTS = ('registry', 'rehearsal', 'log', 'records', 'web', 'verify', 'nginx')
 """In the order in which they are started."""
+BODY, BODY_ADDRESS = 'Umweltamt Beispielstadt', 'Wörlitzer Platz 1, 06844 Dessau'
+"""The issuing body, as its documents name it."""
 ALWAYS = ('registry', 'rehearsal', 'log')
 """Those that each house has."""
 RATE = 1000
@@ -222,6 +224,8 @@ class House:
             self.door.exchange.mkdir()
             self.door.lay_nginx()
             self.port, self.plain = self.door.port, self.door.plain
+            own = f'name = {BODY}\naddress = {BODY_ADDRESS}\nsite = https://localhost:{self.port}\n'
+            (self.door.etc / 'body.conf').write_text(f'[body]\n{own}', encoding='utf-8')
         for name in ('desk.sock', 'sign-in.sock'):
             (self.folder / name).unlink(missing_ok=True)
 
@@ -256,7 +260,8 @@ class House:
         self.add(name, lambda: [*self.unit(unit), '--bind', f'unix:{path}'],
                  lambda _: client.is_open(path),
                  PYTHONPATH=str(self.service), GOO_RECORDS=str(self.book),
-                 GOO_EXCHANGE=str(self.book / 'exchange.json'))
+                 GOO_EXCHANGE=str(self.book / 'exchange.json'),
+                 GOO_ETC=str(self.folder / 'etc'))
 
     def add(self, name: str, words: Any, is_there: Any, **environment: str) -> None:
         self.parts[name] = Part(name, words, is_there, self.folder, self.guard, environment)

@@ -21,7 +21,7 @@ RECORDS = Description('records.yaml')
 OPERATIONS = pytest.mark.parametrize('operation', RECORDS.operations,
                                      ids=[of.name for of in RECORDS.operations])
 CALLERS = strategies.sampled_from([ISSUER, 'SUN', 'VOLT', 'STRANGER'])
-THERE = {'account': '1', 'count': '3', 'numbers': '1', 'number': '1'}
+THERE = {'account': '1', 'holder': 'SUN', 'count': '3', 'numbers': '1', 'number': '1'}
 """Parameters that an operation needs, of what is there."""
 TABLES = {'doubts': HEADER + b'k1,%b,2026-07-01,2026-07-31,5,0\n' % DEVICE.encode()}
 """What an operation is sent that takes a table."""
@@ -104,7 +104,7 @@ def test_answers_are_as_they_are_described(made: Made, known: dict[str, list[str
 
     there = {**THERE, 'code': known['code'][0]}
     needed = {name: there[name] for name, one in RECORDS.parameters(operation, 'query').items()
-              if one.get('required')}
+              if one.get('required') or name == 'holder'}
     number = '7000000000001' if operation.name == 'certificate' else '1'
     assert ask(operation.path.format(number=number), needed, ISSUER) == 200
     ask_anything()

@@ -79,7 +79,7 @@ def test_several_cancellations_are_one_document(made: Made) -> None:
     singles = [shown(made, 'SUN', f'cancellations/{number}')[1]['text'] for number in (1, 2, 4)]
     assert of['text'] == ''.join(singles)
     status, found = made.asked(None, '/verify', number='1-2,4', code=of['code'])
-    assert (status, found['text'], len(found['documents'])) == (200, of['text'], 3)
+    assert (status, found['text'], len(found['items'])) == (200, of['text'], 3)
     for numbers in ('1,4', '1-4', '4', '1-2'):
         assert made.asked(None, '/verify', number=numbers, code=of['code'])[0] == 404
 

@@ -18,7 +18,8 @@ ROUTES = {'acts/NUMBER': 'acts/1', 'certificates/NUMBER': 'certificates/70000000
 TABLE = HEADER + b'k1,500000000000000012,2026-01-01,2026-01-31,5,0\n'
 """What a route is sent that takes a table."""
 NEEDED: dict[str, dict[str, object]] = {
-    'choice': {'account': 1, 'count': 1}, 'documents': {'numbers': 1},
+    'choice': {'account': 1, 'count': 1},
+    'party': {'account': 1, 'holder': 'SUN'}, 'documents': {'numbers': 1},
     'verify': {'number': 1, 'code': 'A' * 16}}
 
 

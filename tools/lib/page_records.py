@@ -67,7 +67,7 @@ class WithRecords(Place):
         book, port = self.dir / 'records', free_port()
         self.begin('follow', *service_commands.command('goo-records'), 'follow', '--begun', self.code, self.day, 1, '--archive', self.dir / 'replica/archive', '--into', book)
         wait_until(lambda: (book / 'current').exists(), 'the book')
-        self.begin('web', 'gunicorn', '--bind', f'127.0.0.1:{port}', '--workers', 1, '--threads', 4, '--chdir', HOME / 'service', 'goo_service.records.web:application()', GOO_RECORDS=str(book))
+        self.begin('web', 'gunicorn', '--bind', f'127.0.0.1:{port}', '--workers', 1, '--threads', 4, '--chdir', HOME / 'service', 'goo_service.records.web:application()', GOO_RECORDS=str(book), GOO_ETC=str(self.etc))
         wait_for(port)
         self.records.target = port
 
@@ -328,7 +328,7 @@ class Seen:
     def names(self):
         b = self.b
         b.go('transfer/1/07000000000733/07000000000733')
-        b.fill('transfer', taker='2')
+        b.fill('transfer', taker='2', taker_holder='VOLT')
         b.press('form.transfer button[type=submit]')
         got = b.text('dialog[open]')
         self.check('the question before a transfer names both holders', 'SUN, Sun Power GmbH' in got and 'VOLT, Volt Handel AG' in got, got)
@@ -359,7 +359,7 @@ class Seen:
         b.press('nav button', 'Deutsch')
         b.see('h1', 'Ihre Konten')
         check('the switch turns the page to German, with its numbers', f'{self.held(1):,}'.replace(',', '.') in b.text('table') and b.d.execute_script('return document.documentElement.lang') == 'de')
-        self.german_pages({'holdings/1': 'Bestand', 'deadlines': 'Fristen', 'history': 'Verlauf', 'act/1': 'Vorgang 1', **{f'lists/{name}': '' for name in LISTS}, 'document/1': 'Entwertung 1', 'account/1': 'Konto',
+        self.german_pages({'holdings/1': 'Bestand', 'deadlines': 'Fristen', 'history': 'Verlauf', 'act/1': 'Vorgang 1', **{f'lists/{name}': '' for name in LISTS}, 'document/1': 'Entwertungsnachweis 07-1-1', 'account/1': 'Konto',
                            'look-up/07000000000848': 'Nachschlagen', 'cancel': 'Entwerten', 'export': 'Exportieren', 'transfer': 'Übertragen'})
         b.picture('transfer-german')
         b.go('holdings/1')
@@ -449,11 +449,12 @@ class Seen:
 
     def transfer_by_keys(self, hands, chosen):
         b, check, before = self.b, self.check, [self.held(account) for account in (1, 2)]
-        hands.press('form.bundle [name=taker]', key='2\n')
+        hands.press('form.bundle [name=taker]', key='2')
+        hands.press('form.bundle [name=taker_holder]', key='VOLT\n')
         b.see('dialog[open]')
         hands.keys(Keys.ESCAPE)
         b.gone('dialog[open]')
-        check('a question that is left gives the focus back to the field', hands.is_at('form.bundle [name=taker]'))
+        check('a question that is left gives the focus back to the field', hands.is_at('form.bundle [name=taker_holder]'))
         hands.press('form.bundle button.main', 'Transfer')
         b.see('dialog[open]')
         hands.keys(Keys.ESCAPE)
@@ -635,7 +636,7 @@ class Seen:
         before = [self.held(account) for account in (1, 2)]
         b.press('.chosen button', 'Transfer')
         b.see('form.bundle')
-        b.fill('bundle', taker='2')
+        b.fill('bundle', taker='2', taker_holder='VOLT')
         self.readable(b, 'a selection')
         b.picture('selection')
         b.picture('selection-dark', dark=True)
@@ -657,7 +658,7 @@ class Seen:
         text = b.text('.chosen', 'certificates chosen in')
         chosen, before = int(text.split()[0].replace(',', '')), [self.held(account) for account in (1, 2)]
         b.press('.chosen button', 'Transfer')
-        b.fill('bundle', taker='2')
+        b.fill('bundle', taker='2', taker_holder='VOLT')
         b.press('form.bundle button.main', 'Transfer')
         fates = iter(('passed', 'passed', 'unheard'))
         place.relay.fate = lambda: next(fates, 'passed')

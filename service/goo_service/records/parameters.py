@@ -26,17 +26,19 @@ PARAMETERS: dict[str, tuple[str, ...]] = {
     'holders': ('holder', 'q', *BEHIND),
     'withdrawals': BEHIND,
     'undeclared': ('month', 'account', *PAGE),
+    'directory': PAGE,
+    'party': ('account', 'holder', 'peer'),
     'statistics': ('by', 'from', 'to', *SUMMED, *PAGE),
     **{name: ('account', *of.filters, *(('q',) if of.found else ()), *BEHIND)
        for name, of in LISTS.items()},
     'acts/NUMBER': (),
     'certificates/NUMBER': (),
     'cancellations/NUMBER': (),
-    'documents': ('numbers',),
+    'documents': ('numbers', 'lang'),
     'doubts': (),
     'status': (),
     'openapi.yaml': (),
-    'verify': ('number', 'code'),
+    'verify': ('number', 'code', 'lang'),
 }
 FORMATS = (*FILES, 'json')
 

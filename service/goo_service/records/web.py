@@ -4,7 +4,8 @@ docs/RECORDS.md has the routes.
 gunicorn runs `application()`. The front door names the caller by GOO-Caller, as it does for the
 registry, and nothing else reaches this service's socket. GOO_RECORDS names the folder with the book
 and the key of check codes, GOO_EXCHANGE the file in which the exchange writes what became of
-notices.
+notices, GOO_ETC the folder with what the issuing body says of itself, GOO_RECORDS_DIRECTORY says
+whether holders see whose accounts there are.
 """
 import functools
 import itertools
@@ -33,10 +34,15 @@ from goo_service.records import certificates
 from goo_service.records import documents
 from goo_service.records import doubts
 from goo_service.records import lists
+from goo_service.records.body import read_body
+from goo_service.records.code_lists import lists_of
 from goo_service.records.files import BYTE_ORDER
 from goo_service.records.files import csv_of
 from goo_service.records.files import presented
+from goo_service.records.paper import Writer
 from goo_service.records.parameters import parameters_of
+from goo_service.records.parties import Parties
+from goo_service.records.parties import TooMany
 from goo_service.records.questions import BadQuestion
 from goo_service.records.questions import FILES
 from goo_service.records.questions import Given
@@ -52,6 +58,7 @@ from goo_service.records.sheets import xlsx_of
 
 FOLDER = Path('/var/lib/goo-records')
 EXCHANGE = FOLDER / 'exchange.json'
+ETC = Path('/etc/goo')
 PAGES = (Path(__file__).resolve().parents[3] / 'docs/records.yaml',
          Path('/usr/share/goo/api/records.yaml'))
 CALLER = re.compile(r'[A-Z0-9][A-Z0-9_-]{0,15}')
@@ -62,7 +69,10 @@ STEPS = 10_000
 BUSY = {'Retry-After': '10'}
 KEY = 64
 """Bytes of the key of check codes."""
-STATUSES = {BadQuestion: 400, NotFound: 404, TooFew: 409}
+STATUSES: dict[type[Exception], int] = {
+    BadQuestion: 400, NotFound: 404, TooFew: 409, TooMany: 429}
+DIRECTORY = {'shown': True, 'hidden': False}
+"""What GOO_RECORDS_DIRECTORY says: whether holders see whose accounts there are."""
 FateKey = tuple[int, int, int]
 """A notice: 1 where it was sent and 0 where it came, the other registry, its number."""
 
@@ -88,7 +98,8 @@ class Busy(Exception):
     """As many files as may be are being written."""
 
 
-FAULTS = (TooLong, Busy, OSError, sqlite3.DatabaseError, *STATUSES)
+FAULTS: tuple[type[Exception], ...] = (
+    TooLong, Busy, OSError, sqlite3.DatabaseError, *STATUSES)
 """What an answer can come to instead."""
 
 
@@ -147,29 +158,39 @@ def with_viewer(viewer: Viewer, answer: Callable[[sqlite3.Connection, Viewer, Gi
 class Service:
     """What a route needs: the present book, the key of check codes, and what the exchange wrote."""
 
-    def __init__(self, folder: Path, exchange: Path, limits: Limits = LIMITS) -> None:
-        self.folder, self.exchange, self.limits = folder, exchange, limits
+    def __init__(self, folder: Path, exchange: Path, limits: Limits = LIMITS,
+                 etc: Path = ETC, shows_directory: bool = True) -> None:
+        self.folder, self.exchange, self.etc, self.limits = folder, exchange, etc, limits
+        self.parties = Parties(exchange, shows_directory)
         self.files = threading.BoundedSemaphore(limits.files)
         self.lists: dict[str, ListOf] = {
             'acts': acts.acts, 'holdings': certificates.holdings,
             'deadlines': certificates.deadlines, 'choice': certificates.choice,
             'holders': lists.holders, 'withdrawals': lists.withdrawals,
             'statistics': lists.statistics, 'undeclared': doubts.undeclared,
+            'directory': self.parties.directory,
             **{name: functools.partial(lists.listed, name) for name in lists.LISTS},
             'notices': self.notices}
         self.ones: dict[str, OneOf] = {
             'acts': acts.act, 'certificates': certificates.certificate,
             'cancellations': self.cancellation}
-        self.others: dict[str, OtherOf] = {'status': status, 'documents': self.documents}
+        self.others: dict[str, OtherOf] = {
+            'status': self.status, 'documents': self.documents, 'party': self.party}
         self.posted: dict[str, PostedOf] = {'doubts': doubts.doubts}
 
-    @functools.cached_property
-    def key(self) -> bytes:
-        path = self.folder / 'code.key'
-        key = path.read_bytes().strip()
-        if len(key) < KEY:
-            raise OSError(f'{path} has {len(key)} bytes, and a key of check codes has {KEY}')
-        return key
+    @property
+    def maker(self) -> documents.Maker:
+        """The keys of check codes: that of /etc/goo, which all hosts of a registry have, and that
+        of the book's folder, by which a registry without the first one makes codes."""
+        paths = [path for path in (self.etc / 'code.key', self.folder / 'code.key')
+                 if path.exists()]
+        if not paths:
+            raise OSError(f'{self.folder}/code.key is not there')
+        return documents.Maker(tuple(map(read_key, paths)), self.writer)
+
+    def writer(self, language: str) -> Writer:
+        """Who writes documents, by what the issuing body says of itself at the moment."""
+        return Writer(language, read_body(self.etc), lists_of(self.etc))
 
     def book(self, end: float) -> Timed:
         """One moment of the present book, for one answer that has time until then."""
@@ -215,7 +236,8 @@ class Service:
     def failure(self, error: Exception, is_late: bool, seconds: float) -> Response:
         """The answer where there is none."""
         if status := STATUSES.get(type(error)):
-            return reply(status, {'error': str(error)})
+            wait = {'Retry-After': str(error.wait)} if isinstance(error, TooMany) else {}
+            return reply(status, {'error': str(error)}, **wait)
         if isinstance(error, Busy):
             text = 'other files are being written: ask again in some seconds'
             return reply(503, {'error': text}, **BUSY)
@@ -281,15 +303,23 @@ class Service:
         return Listed((*found.columns, 'fate'), rows, found.beside)
 
     def cancellation(self, database: sqlite3.Connection, viewer: Viewer, number: int) -> Row:
-        return documents.shown_document(database, viewer, number, self.key)
+        return documents.shown_document(database, viewer, number, self.maker.keys[0])
 
     def documents(self, database: sqlite3.Connection, viewer: Viewer, given: Given) -> Row:
-        return documents.shown_documents(database, viewer, given, self.key)
+        return documents.shown_documents(database, viewer, given, self.maker)
+
+    def status(self, _: sqlite3.Connection, viewer: Viewer, __: Given) -> Row:
+        """Who looks, and whether he sees the directory."""
+        return {'caller': viewer.caller, 'directory': self.parties.is_shown or viewer.sees_all}
+
+    def party(self, database: sqlite3.Connection, viewer: Viewer, given: Given) -> Row:
+        user = request.headers.get('GOO-User') or viewer.caller
+        return self.parties.party(database, viewer, given, user)
 
     def verified(self) -> Response:
         """The public check: whether number and code belong together."""
         def answer(database: sqlite3.Connection, given: Given) -> Response:
-            found = documents.verified(database, given, self.key)
+            found = documents.verified(database, given, self.maker)
             if found is None:
                 text = 'number and code do not belong together'
                 return reply(404, {'valid': False, 'error': text})
@@ -298,9 +328,12 @@ class Service:
         return self.for_anybody('verify', answer)
 
 
-def status(_: sqlite3.Connection, viewer: Viewer, __: Given) -> Row:
-    """Who looks."""
-    return {'caller': viewer.caller}
+def read_key(path: Path) -> bytes:
+    """A key of check codes."""
+    key = path.read_bytes().strip()
+    if len(key) < KEY:
+        raise OSError(f'{path} has {len(key)} bytes, and a key of check codes has {KEY}')
+    return key
 
 
 def fates_in(path: Path) -> dict[FateKey, str]:
@@ -326,11 +359,22 @@ def description() -> Response:
     return Response(page.read_bytes(), 200, HEADERS, content_type='application/yaml')
 
 
+def shows_directory() -> bool:
+    """Whether holders see whose accounts there are, by what the unit says; they do unless it says
+    otherwise."""
+    word = os.environ.get('GOO_RECORDS_DIRECTORY', 'shown')
+    if word not in DIRECTORY:
+        sys.exit(f'records.conf: GOO_RECORDS_DIRECTORY is {word!r}, and not one of '
+                 f'{", ".join(DIRECTORY)}')
+    return DIRECTORY[word]
+
+
 def application(folder: Path | None = None, exchange: Path | None = None,
-                limits: Limits = LIMITS) -> Flask:
+                limits: Limits = LIMITS, etc: Path | None = None) -> Flask:
     """The service as a WSGI application."""
     service = Service(folder or Path(os.environ.get('GOO_RECORDS', FOLDER)),
-                      exchange or Path(os.environ.get('GOO_EXCHANGE', EXCHANGE)), limits)
+                      exchange or Path(os.environ.get('GOO_EXCHANGE', EXCHANGE)),
+                      limits, etc or Path(os.environ.get('GOO_ETC', ETC)), shows_directory())
     app = Flask('goo-records', static_folder=None)
 
     @app.get('/records/v1/<name>')

@@ -2,7 +2,7 @@
 
 usage: goo-setup [--code C] [--name HOST] [--date DAY] [--next-serial N]
                  [--certificate FILE --key FILE | --self-signed] [--user NAME]
-                 [--password-file FILE]
+                 [--password-file FILE] [--directory shown|hidden]
                  [--alone | --hosts ADDRESS,ADDRESS,ADDRESS [--balancer ADDRESS] | --join FILE]
        goo-setup user add NAME CALLER [ROLE] [--password-file FILE]
                  | remove NAME | password NAME [--password-file FILE]
@@ -10,11 +10,12 @@ usage: goo-setup [--code C] [--name HOST] [--date DAY] [--next-serial N]
        goo-setup status | doctor | renew | upgraded
 
 Without words it asks what is not given: the host's name, the certificate, the first user of the
-issuing body and a password, the registry's code and date, one host or three. It makes the
-secrets, writes the configuration below /etc/goo, begins the registry and its log of requests,
-starts the units, and prints the address. What is there already stays as it is. So it can be run
-again after an interruption. A registry that was installed by hand goes on under the package: its
-units and programs go aside, to /var/backups/goo-by-hand.
+issuing body and a password, the registry's code and date, one host or three, whether holders
+see whose accounts there are. It makes the secrets, writes the configuration below /etc/goo,
+begins the registry and its log of requests, starts the units, and prints the address. What is
+there already stays as it is. So it can be run again after an interruption. A registry that was
+installed by hand goes on under the package: its units and programs go aside, to
+/var/backups/goo-by-hand.
 
 --hosts makes this host the first of three with one log over etcd: the addresses of all three,
 this one's first. It writes a file for each of the others, with which that host joins by --join.
@@ -64,6 +65,7 @@ OPTIONS = {
     'key': ('FILE', 'its key'),
     'user': ('NAME', 'the first user, somebody of the issuing body'),
     'password-file': ('FILE', 'a password, on its first line'),
+    'directory': ('WORD', 'whether holders see whose accounts there are: shown, or hidden'),
     'balancer': ('ADDRESS', 'of three hosts: who may ask whether one is well'),
 }
 USER_WORDS = {'add': ('name', 'caller'), 'remove': ('name',), 'password': ('name',)}
@@ -92,6 +94,8 @@ def begin(given: Beginning) -> int:
     elif given.join:
         cluster.place_etcd()
         cluster.found_log(given.join)
+    if registry.place_directory(given) and given.directory:
+        run('systemctl', 'try-restart', 'goo-records-web')
     running.start_units(are_timers=False)
     running.start_nginx(changed, name.text)
     try:

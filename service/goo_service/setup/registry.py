@@ -9,6 +9,7 @@ import sys
 from collections.abc import Callable
 from dataclasses import dataclass
 
+from goo_service.records import settings
 from goo_service.setup import choices
 from goo_service.setup import people
 from goo_service.setup.choices import Beginning
@@ -33,7 +34,8 @@ from goo_service.setup.questions import answer_or_default
 from goo_service.setup.questions import read_password
 
 CHAIN, KEY = ETC / 'tls/cert.pem', ETC / 'tls/key.pem'
-BEGUN = '# How the book of acts begins (RECORDS.md)\nGOO_RECORDS_BEGIN=--begun {}\n'
+RECORDS = ETC / 'records.conf'
+DIRECTORY_ASKED = 'whether holders see whose accounts there are, by code and name: shown or hidden'
 NAME_ASKED = "the host's name, as it stands in the certificate"
 USER_ASKED = 'the first user, somebody of the issuing body'
 CODE_ASKED = "the registry's code, 1 to 99, that no other registry has"
@@ -151,17 +153,33 @@ def place_registry(given: Beginning) -> bool:
         code = int(answer(given.code, CODE_ASKED, choices.is_code))
         today = datetime.date.today().isoformat()
         day = given.date or answer_or_default("the registry's date", today, choices.is_day)
-        conf = ETC / 'records.conf'
-        earlier = text_of(conf)
-        write(conf, BEGUN.format(f'{code} {day} {given.next_serial or 1}'))
+        earlier = text_of(RECORDS)
+        place_beginning(f'{code} {day} {given.next_serial or 1}')
         serial = ('--next-serial', given.next_serial) if given.next_serial else ()
         fault = goo('init', '--code', code, '--today', day, *serial)
         if 'already there' in fault and earlier:
-            write(conf, earlier)
+            write(RECORDS, earlier)
             fault = goo('run')
         if fault:
             raise Refused(f'{DATABASE}: {fault}')
     return report(DATABASE, is_new)
+
+
+def place_beginning(begun: str) -> None:
+    """How the book of acts begins: code, day and first number of the registry."""
+    write(RECORDS, settings.with_setting(text_of(RECORDS), settings.BEGIN, f'--begun {begun}'))
+
+
+def place_directory(given: Beginning) -> bool:
+    """Whether holders see the directory: as given, as it stands, or as is answered. Whether it was
+    changed."""
+    text = text_of(RECORDS)
+    before = settings.value_of(text, settings.DIRECTORY)
+    value = given.directory or before or answer_or_default(
+        DIRECTORY_ASKED, settings.SHOWN, choices.is_directory)
+    if value != before:
+        write(RECORDS, settings.with_setting(text, settings.DIRECTORY, value))
+    return report(f'{RECORDS}: the directory of accounts is {value}', value != before)
 
 
 def place_exchange() -> None:
