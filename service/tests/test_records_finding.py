@@ -18,6 +18,7 @@ from goo_service.records import web
 from goo_service.records.pages import paged_by
 from goo_service.records.parameters import page_parameter
 from goo_service.records.questions import Conditions
+from goo_service.records.questions import FILES
 from made_book import Made
 from made_book import PLANT
 from mutations import gsrn
@@ -210,7 +211,7 @@ def country(tmp_path_factory: pytest.TempPathFactory) -> Made:
     begun = Made(tmp_path_factory.mktemp('many'))
     begun.country()
     taken: list[entries.Record] = []
-    begun.take = taken.append  # type: ignore[method-assign]
+    setattr(begun, 'take', taken.append)
     for at in range(MANY):
         register(begun, 1000 + at, site=f'Windpark Żółwin {at}' if at % 100 == 7 else f'Dach {at}',
                  commissioned=f'{1990 + at % 30}-01-01', capacity_w=10 ** 6 + at)
@@ -330,7 +331,7 @@ def test_a_csv_for_a_spreadsheet_begins_with_a_byte_order_mark(named: Made) -> N
 
 
 def test_a_workbook_is_bounded(named: Made, monkeypatch: pytest.MonkeyPatch) -> None:
-    monkeypatch.setitem(web.FILES, 'xlsx', 3)
+    monkeypatch.setitem(FILES, 'xlsx', 3)
     text = answer_of(named, 'acts', format='xlsx').get_data()
     assert len(rows_of_sheet(text)) == 1 + 3
     about = openpyxl.load_workbook(io.BytesIO(text))['about']
