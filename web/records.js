@@ -84,7 +84,7 @@ const PAGE = 1000;
 /** By what holdings are told, and the sum that says how many of them there are. */
 const IN_ALL = {lot: 'lots', run: 'runs'};
 /** The parameter that takes the `next` of a page: sums count rows, acts their ids, and other lists go on behind a row. */
-const GOES_ON = {acts: 'before', holdings: 'offset', deadlines: 'offset', statistics: 'offset', undeclared: 'offset', directory: 'offset'};
+const GOES_ON = {acts: 'before', holdings: 'offset', deadlines: 'offset', statistics: 'offset', undeclared: 'offset', directory: 'offset', attachments: 'offset'};
 /** What asks for the page that begins there; the first one where `next` is none. */
 export const pageFrom = (name, next) => next === null ? {} : {[GOES_ON[name] ?? 'after']: next};
 
