@@ -169,7 +169,9 @@ def test_no_row_is_lost_or_twice_while_acts_come_in(made: Made, name: str, sort:
     for at in range(1, 9):
         add(made, at)
     before = [key_of(row) for row in made.items(ISSUER, name, sort=sort)]
-    found, more, at = [], {}, 9
+    found: list[object] = []
+    more: dict[str, object] = {}
+    at = 9
     while True:
         _, page = made.asked(ISSUER, f'/records/v1/{name}', sort=sort, limit=3, **more)
         found += [key_of(row) for row in page['items']]

@@ -282,8 +282,8 @@ class Service:
     def file(self, of: Listed, about: Row) -> Response:
         """A list as a file, written as it is read. Where the time ends within, so does the
         connection, and the client has no whole answer."""
-        kind, ending, parts = written_file(of, about)
-        parts = self.one_of_few(parts)
+        kind, ending, written = written_file(of, about)
+        parts = self.one_of_few(written)
         first = next(parts)         # what fails at once is told by its status
         name = f'attachment; filename="{about["list"]}.{ending}"'
         answer = Response(itertools.chain([first], parts), 200,
