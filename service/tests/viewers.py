@@ -237,7 +237,7 @@ def shown_of(act: Row) -> str:
     return ' '.join(act[member] or '' for member in SEARCHED)
 
 
-def plain(text: str) -> str:
+def bare(text: str) -> str:
     """Letters alone, without their marks and their case."""
     return ''.join(letter for letter in unicodedata.normalize('NFD', text.casefold())
                    if unicodedata.category(letter) != 'Mn')
@@ -245,7 +245,7 @@ def plain(text: str) -> str:
 
 def has_text(act: Row, text: str) -> bool:
     """Whether a text stands in what an act shows, whatever the case and the accents."""
-    return plain(text) in plain(shown_of(act))
+    return bare(text) in bare(shown_of(act))
 
 
 def text_by_chance(chance: random.Random, acts: list[Row]) -> str:
