@@ -140,7 +140,8 @@ class Made:
         """Flask's client of the service over this book."""
         self.book().close()
         return web.application(self.folder, self.folder / 'state.json',
-                               etc=self.folder / 'etc').test_client()
+                               etc=self.folder / 'etc',
+                               attachments=self.folder / 'attachments').test_client()
 
     def asked(self, caller: str | None, path: str, **parameters: object) -> tuple[int, Any]:
         """Status and JSON of an answer."""

@@ -7,6 +7,8 @@ from typing import Any
 import pytest
 from goo_service.records import feed
 from goo_service.records import parameters
+from goo_service.records.attachments import Attachments
+from goo_service.records.attachments import Content
 from described import Description
 from described import Operation
 from hypothesis import HealthCheck
@@ -55,6 +57,8 @@ def fill(made: Made) -> None:
     made.send_bundle('SUN', [{'command': 'transfer', 'key': f'b{at}', 'giver': 1, 'taker': 2, **of}
                              for at, of in enumerate(spans)])
     made.must(ISSUER, 'advance', day='2026-08-01')
+    old = Content('SUN', 'statement.pdf', 'of the registry before', b'%PDF-1.7')
+    Attachments(made.folder / 'attachments').add([old], None)
 
 
 @pytest.fixture(scope='module')

@@ -1,4 +1,5 @@
 """An old registry is brought over: its tables are judged, and nothing is lost or changed."""
+import hashlib
 import json
 import os
 import random
@@ -23,6 +24,7 @@ from hypothesis import strategies
 from goo_service.exchange.signature import Key
 from goo_service.log.closed import closed_in
 from goo_service.migrate import check
+from goo_service.migrate import documents
 from goo_service.migrate import enquiry
 from goo_service.migrate import plan
 from goo_service.migrate import protocol
@@ -34,6 +36,9 @@ from goo_service.migrate.numbers import NoRange
 from goo_service.migrate.numbers import Reader
 from goo_service.migrate.settings import Settings
 from goo_service.migrate.sums import compare
+from goo_service.records.attachments import Attachments
+from goo_service.records.questions import NotFound
+from goo_service.records.questions import Viewer
 from house import House
 from house import SERVICE
 from mutations import gsrn
@@ -427,3 +432,28 @@ def test_a_document_is_kept_with_its_hash(folder: Path) -> None:
     with work.opened(folder) as database:
         kept = database.execute('SELECT file, bytes FROM kept_document').fetchall()
     assert kept == [('statement.pdf', 12)]
+
+
+def test_a_document_is_shown_to_its_holder(folder: Path, tmp_path: Path) -> None:
+    (folder / 'documents').mkdir()
+    (folder / 'documents/statement.pdf').write_bytes(b'%PDF-1.7 old')
+    (folder / 'tables/documents.csv').write_text(
+        'file,holder,about\nstatement.pdf,H00001,Last statement\n', encoding='utf-8')
+    _, found = checked(folder)
+    assert found.open == 0
+    into = tmp_path / 'attachments'
+    assert documents.attach(folder, into) == 1 and documents.attach(folder, into) == 0
+    shown = Attachments(into)
+    digest = hashlib.sha256(b'%PDF-1.7 old').hexdigest()
+    for viewer, sees in (('ISSUER', True), ('H00001', True), ('H00002', False)):
+        rows = list(shown.listed(Viewer(viewer), {}).rows)
+        assert [row['sha256'] for row in rows] == ([digest] if sees else [])
+    assert shown.content(Viewer('H00001'), 1)[1] == b'%PDF-1.7 old'
+    with pytest.raises(NotFound):
+        shown.content(Viewer('H00002'), 1)
+    (into / digest).write_bytes(b'%PDF-1.7 new')
+    with pytest.raises(OSError, match='not the file'):
+        shown.content(Viewer('ISSUER'), 1)
+    (folder / 'documents/statement.pdf').write_bytes(b'%PDF-1.7 now')
+    with pytest.raises(documents.NoDocument, match='not the file'):
+        documents.attach(folder, into)

@@ -4,8 +4,9 @@ docs/RECORDS.md has the routes.
 gunicorn runs `application()`. The front door names the caller by GOO-Caller, as it does for the
 registry, and nothing else reaches this service's socket. GOO_RECORDS names the folder with the book
 and the key of check codes, GOO_EXCHANGE the file in which the exchange writes what became of
-notices, GOO_ETC the folder with what the issuing body says of itself, GOO_RECORDS_DIRECTORY says
-whether holders see whose accounts there are.
+notices, GOO_ETC the folder with what the issuing body says of itself, GOO_ATTACHMENTS the folder of
+documents that were brought over, GOO_RECORDS_DIRECTORY says whether holders see whose accounts
+there are.
 """
 import contextlib
 import functools
@@ -22,6 +23,7 @@ from collections.abc import Iterator
 from dataclasses import dataclass
 from pathlib import Path
 from typing import Any
+from urllib.parse import quote
 
 from flask import Flask
 from flask import Response
@@ -38,6 +40,7 @@ from goo_service.records import feed
 from goo_service.records import folded
 from goo_service.records import known
 from goo_service.records import lists
+from goo_service.records.attachments import Attachments
 from goo_service.records.body import read_body
 from goo_service.records.code_lists import lists_of
 from goo_service.records.files import csv_of
@@ -61,6 +64,7 @@ from goo_service.records.schema import read_moment
 FOLDER = Path('/var/lib/goo-records')
 EXCHANGE = FOLDER / 'exchange.json'
 ETC = Path('/etc/goo')
+ATTACHMENTS = Path('/var/lib/goo-attachments')
 PAGES = (Path(__file__).resolve().parents[3] / 'docs/records.yaml',
          Path('/usr/share/goo/api/records.yaml'))
 CALLER = re.compile(r'[A-Z0-9][A-Z0-9_-]{0,15}')
@@ -126,7 +130,7 @@ class Timed(sqlite3.Connection):
 
 
 ListOf = Callable[[sqlite3.Connection, Viewer, Given], Listed]
-OneOf = Callable[[sqlite3.Connection, Viewer, int], Row]
+OneOf = Callable[[sqlite3.Connection, Viewer, int], 'Answer']
 OtherOf = Callable[[sqlite3.Connection, Viewer, Given], Row]
 PostedOf = Callable[[sqlite3.Connection, Viewer, Given, bytes], Row]
 Answer = Response | Listed | Row
@@ -154,9 +158,11 @@ class Service:
     """What a route needs: the present book, the key of check codes, and what the exchange wrote."""
 
     def __init__(self, folder: Path, exchange: Path, limits: Limits = LIMITS,
-                 etc: Path = ETC, shows_directory: bool = True) -> None:
+                 etc: Path = ETC, shows_directory: bool = True,
+                 attachments: Path = ATTACHMENTS) -> None:
         self.folder, self.exchange, self.etc, self.limits = folder, exchange, etc, limits
         self.parties = Parties(exchange, shows_directory)
+        self.kept = Attachments(attachments)
         self.files = threading.BoundedSemaphore(limits.files)
         self.waiting = feed.Waiting(limits.waiting)
         self.lists: dict[str, ListOf] = {
@@ -166,10 +172,10 @@ class Service:
             'statistics': lists.statistics, 'undeclared': doubts.undeclared,
             'directory': self.parties.directory,
             **{name: functools.partial(lists.listed, name) for name in lists.LISTS},
-            'notices': self.notices}
+            'notices': self.notices, 'attachments': self.attachments}
         self.ones: dict[str, OneOf] = {
             'acts': acts.act, 'certificates': certificates.certificate,
-            'cancellations': self.cancellation}
+            'cancellations': self.cancellation, 'attachments': self.attachment}
         self.others: dict[str, OtherOf] = {
             'status': self.status, 'documents': self.documents, 'party': self.party}
         self.posted: dict[str, PostedOf] = {'doubts': doubts.doubts}
@@ -357,6 +363,16 @@ class Service:
         user = request.headers.get('GOO-User') or viewer.caller
         return self.parties.party(database, viewer, given, user)
 
+    def attachments(self, _: sqlite3.Connection, viewer: Viewer, given: Given) -> Listed:
+        return self.kept.listed(viewer, given)
+
+    def attachment(self, _: sqlite3.Connection, viewer: Viewer, number: int) -> Response:
+        """A document that was brought over. A browser saves it, and never opens it here."""
+        found, content = self.kept.content(viewer, number)
+        name = quote(found.file, safe='')
+        fields = {**HEADERS, 'Content-Disposition': f"attachment; filename*=UTF-8''{name}"}
+        return Response(content, 200, fields, content_type='application/octet-stream')
+
     def verified(self) -> Response:
         """The public check: whether number and code belong together."""
         def answer(database: sqlite3.Connection, given: Given) -> Response:
@@ -428,11 +444,13 @@ def shows_directory() -> bool:
 
 
 def application(folder: Path | None = None, exchange: Path | None = None,
-                limits: Limits = LIMITS, etc: Path | None = None) -> Flask:
+                limits: Limits = LIMITS, etc: Path | None = None,
+                attachments: Path | None = None) -> Flask:
     """The service as a WSGI application."""
     service = Service(folder or Path(os.environ.get('GOO_RECORDS', FOLDER)),
                       exchange or Path(os.environ.get('GOO_EXCHANGE', EXCHANGE)),
-                      limits, etc or Path(os.environ.get('GOO_ETC', ETC)), shows_directory())
+                      limits, etc or Path(os.environ.get('GOO_ETC', ETC)), shows_directory(),
+                      attachments or Path(os.environ.get('GOO_ATTACHMENTS', ATTACHMENTS)))
     app = Flask('goo-records', static_folder=None)
 
     @app.get('/records/v1/<name>')
@@ -454,13 +472,14 @@ def application(folder: Path | None = None, exchange: Path | None = None,
 
     app.get('/records/v1/openapi.yaml')(description)
     app.get('/verify')(service.verified)
-
-    @app.errorhandler(404)
-    def missing(_: Exception) -> Response:
-        return reply(404, {'error': f'there is no {request.path}'})
-
-    @app.errorhandler(405)
-    def not_allowed(_: Exception) -> Response:
-        return reply(405, {'error': 'the records are only read'})
-
+    app.register_error_handler(404, missing)
+    app.register_error_handler(405, not_allowed)
     return app
+
+
+def missing(_: Exception) -> Response:
+    return reply(404, {'error': f'there is no {request.path}'})
+
+
+def not_allowed(_: Exception) -> Response:
+    return reply(405, {'error': 'the records are only read'})
