@@ -199,10 +199,11 @@ def made_of(folder: Path) -> Path:
     file = folder / 'registry.db'
     subprocess.run([GOO, 'init', '--db', file, '--code', '7', '--today', DAY], check=True,
                    capture_output=True)
-    plant = {'country': 'DE', 'site': 'North', 'tech': 'T010000', 'source': 'F01010100',
-             'capacity_w': 10 ** 9, 'commissioned': '2020-06-15', 'support': 'none'}
+    plant: dict[str, Any] = {
+        'country': 'DE', 'site': 'North', 'tech': 'T010000', 'source': 'F01010100',
+        'capacity_w': 10 ** 9, 'commissioned': '2020-06-15', 'support': 'none'}
 
-    def span(first: int, last: int) -> dict[str, str]:
+    def span(first: int, last: int) -> dict[str, Any]:
         return {'first': f'{CODE * 10 ** 12 + first:014}', 'last': f'{CODE * 10 ** 12 + last:014}'}
 
     lines = [(caller, {'command': command, 'key': f'm{at}', **members})
