@@ -206,25 +206,26 @@ def made_of(folder: Path) -> Path:
     def span(first: int, last: int) -> dict[str, Any]:
         return {'first': f'{CODE * 10 ** 12 + first:014}', 'last': f'{CODE * 10 ** 12 + last:014}'}
 
+    sent: list[tuple[str, str, dict[str, Any]]] = [
+        ('ISSUER', 'open_holder', {'holder': 'SUN', 'name': 'Sun'}),
+        ('ISSUER', 'open_holder', {'holder': 'VOLT', 'name': 'Volt'}),
+        *(('ISSUER', 'open_account', {'holder': holder})
+          for holder in ('SUN', 'VOLT', 'SUN', 'VOLT')),
+        *(('ISSUER', 'register_device', {'device': device, 'account': 1, **plant})
+          for device in DEVICES),
+        ('ISSUER', 'add_peer', {'peer': 9}),
+        *(('ISSUER', 'declare', {'device': device, 'first_day': day, 'last_day': day,
+                                 'gross_wh': 10 ** 7, 'aux_wh': 0})
+          for device, day in ((DEVICES[0], '2024-01-31'), (DEVICES[0], '2025-01-01'),
+                              (DEVICES[1], '2025-01-01'), (DEVICES[0], '2025-01-02'))),
+        ('SUN', 'cancel', {'account': 1, **span(5, 6), 'beneficiary': 'x',
+                           'use_first': '2025-01-01', 'use_last': '2025-01-31'}),
+        ('SUN', 'export', {'giver': 1, 'peer': 9, 'account': 5, **span(25, 26)}),
+        ('SUN', 'transfer', {'giver': 1, 'taker': 2, **span(30, 34)}),
+        ('SUN', 'transfer', {'giver': 1, 'taker': 3, **span(35, 37)}),
+        ('VOLT', 'close_account', {'account': 4})]
     lines = [(caller, {'command': command, 'key': f'm{at}', **members})
-             for at, (caller, command, members) in enumerate([
-                 ('ISSUER', 'open_holder', {'holder': 'SUN', 'name': 'Sun'}),
-                 ('ISSUER', 'open_holder', {'holder': 'VOLT', 'name': 'Volt'}),
-                 *(('ISSUER', 'open_account', {'holder': holder})
-                   for holder in ('SUN', 'VOLT', 'SUN', 'VOLT')),
-                 *(('ISSUER', 'register_device', {'device': device, 'account': 1, **plant})
-                   for device in DEVICES),
-                 ('ISSUER', 'add_peer', {'peer': 9}),
-                 *(('ISSUER', 'declare', {'device': device, 'first_day': day, 'last_day': day,
-                                          'gross_wh': 10 ** 7, 'aux_wh': 0})
-                   for device, day in ((DEVICES[0], '2024-01-31'), (DEVICES[0], '2025-01-01'),
-                                       (DEVICES[1], '2025-01-01'), (DEVICES[0], '2025-01-02'))),
-                 ('SUN', 'cancel', {'account': 1, **span(5, 6), 'beneficiary': 'x',
-                                    'use_first': '2025-01-01', 'use_last': '2025-01-31'}),
-                 ('SUN', 'export', {'giver': 1, 'peer': 9, 'account': 5, **span(25, 26)}),
-                 ('SUN', 'transfer', {'giver': 1, 'taker': 2, **span(30, 34)}),
-                 ('SUN', 'transfer', {'giver': 1, 'taker': 3, **span(35, 37)}),
-                 ('VOLT', 'close_account', {'account': 4})])]
+             for at, (caller, command, members) in enumerate(sent)]
     answers = run_lines(file, [(caller, json.dumps(of).encode()) for caller, of in lines])
     assert all(of['outcome'] == 'accepted' for of in answers)
     return file
