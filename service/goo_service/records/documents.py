@@ -20,6 +20,7 @@ from goo_service.records.questions import NotFound
 from goo_service.records.questions import Row
 from goo_service.records.questions import Viewer
 from goo_service.records.questions import rows_of
+from goo_service.records.schema import CANCELLATION
 from goo_service.records.seal import SHA256
 from goo_service.records.seal import Seal
 
@@ -40,8 +41,8 @@ class Maker:
 
 def document(database: sqlite3.Connection, number: int) -> Row:
     """What a cancellation's document says: the registry's text, and the facts of each lot."""
-    found = rows_of(database, '''
-        SELECT cancellation.*, account.holder, holder.name, (SELECT code FROM meta) AS registry
+    found = rows_of(database, f'''
+        SELECT {CANCELLATION}, account.holder, holder.name, (SELECT code FROM meta) AS registry
         FROM cancellation JOIN account ON account.number = cancellation.account
         JOIN holder ON holder.code = account.holder WHERE cancellation.number = ?''', (number,))
     if not found:
