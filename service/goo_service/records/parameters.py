@@ -33,6 +33,8 @@ PARAMETERS: dict[str, tuple[str, ...]] = {
     'cancellations/NUMBER': (),
     'documents': ('numbers', 'lang'),
     'doubts': (),
+    'plan': ('command', 'account'),
+    'papers': ('table', 'lang'),
     'status': (),
     'openapi.yaml': (),
     'verify': ('number', 'code', 'lang'),

@@ -42,7 +42,10 @@ from goo_service.records.paper import Writer
 from goo_service.records.parameters import parameters_of
 from goo_service.records.parties import Parties
 from goo_service.records.parties import TooMany
+from goo_service.records.plan_papers import zip_of
+from goo_service.records.plans import Planner
 from goo_service.records.questions import BadQuestion
+from goo_service.records.questions import Busy
 from goo_service.records.questions import Given
 from goo_service.records.questions import Listed
 from goo_service.records.questions import NotFound
@@ -90,10 +93,6 @@ class TooLong(Exception):
     """The time of an answer is over."""
 
 
-class Busy(Exception):
-    """As many files as may be are being written."""
-
-
 FAULTS: tuple[type[Exception], ...] = (
     TooLong, Busy, OSError, sqlite3.DatabaseError, *STATUSES)
 """What an answer can come to instead."""
@@ -118,11 +117,11 @@ class Timed(sqlite3.Connection):
         return super().execute(*words)
 
 
+Answer = Response | Listed | Row
 ListOf = Callable[[sqlite3.Connection, Viewer, Given], Listed]
 OneOf = Callable[[sqlite3.Connection, Viewer, int], Row]
-OtherOf = Callable[[sqlite3.Connection, Viewer, Given], Row]
+OtherOf = Callable[[sqlite3.Connection, Viewer, Given], Answer]
 PostedOf = Callable[[sqlite3.Connection, Viewer, Given, bytes], Row]
-Answer = Response | Listed | Row
 
 
 def reply(status: int, value: object, **fields: str) -> Response:
@@ -163,8 +162,10 @@ class Service:
             'acts': acts.act, 'certificates': certificates.certificate,
             'cancellations': self.cancellation}
         self.others: dict[str, OtherOf] = {
-            'status': self.status, 'documents': self.documents, 'party': self.party}
-        self.posted: dict[str, PostedOf] = {'doubts': doubts.doubts}
+            'status': self.status, 'documents': self.documents, 'party': self.party,
+            'papers': self.papers}
+        self.planner = Planner()
+        self.posted: dict[str, PostedOf] = {'doubts': doubts.doubts, 'plan': self.plan}
 
     @property
     def maker(self) -> documents.Maker:
@@ -202,7 +203,7 @@ class Service:
                     answer: Callable[[sqlite3.Connection, Given], Answer]) -> Response:
         """The answer of a route, or the error that it came to. Its book is closed once it is
         sent."""
-        is_file = request.args.get('format') == 'csv'
+        is_file = name == 'papers' or request.args.get('format') == 'csv'
         seconds = self.limits.file if is_file else self.limits.question
         try:
             given = parameters_of(name, request.args)
@@ -227,8 +228,7 @@ class Service:
             wait = {'Retry-After': str(error.wait)} if isinstance(error, TooMany) else {}
             return reply(status, {'error': str(error)}, **wait)
         if isinstance(error, Busy):
-            text = 'other files are being written: ask again in some seconds'
-            return reply(503, {'error': text}, **BUSY)
+            return reply(503, {'error': str(error)}, **BUSY)
         if is_late:
             text = (f'the answer takes longer than {seconds:g} s: ask for less, for example for '
                     'one account, one kind of act or some days')
@@ -262,7 +262,7 @@ class Service:
     def one_of_few(self, parts: Iterator[bytes]) -> Any:
         """The same parts, while no more files are under way than may be."""
         if not self.files.acquire(blocking=False):
-            raise Busy
+            raise Busy('other files are being written: ask again in some seconds')
         try:
             yield from parts
         finally:
@@ -302,6 +302,24 @@ class Service:
     def party(self, database: sqlite3.Connection, viewer: Viewer, given: Given) -> Row:
         user = request.headers.get('GOO-User') or viewer.caller
         return self.parties.party(database, viewer, given, user)
+
+    def plan(self, database: sqlite3.Connection, viewer: Viewer, given: Given,
+             body: bytes) -> Row:
+        """What a table of transfers or cancellations comes to."""
+        def pair(account: int, holder: str) -> Row:
+            return self.party(database, viewer, {'account': str(account), 'holder': holder})
+
+        return self.planner.plan(database, viewer, given, body, pair)
+
+    def papers(self, database: sqlite3.Connection, viewer: Viewer, given: Given) -> Response:
+        """The documents of a table that was sent, in a ZIP."""
+        def parts() -> Iterator[bytes]:
+            yield zip_of(database, viewer, given, self.maker)
+
+        whole = b''.join(self.one_of_few(parts()))
+        name = f'documents-{given["table"]}.zip'
+        fields = {**HEADERS, 'Content-Disposition': f'attachment; filename="{name}"'}
+        return Response(whole, 200, fields, content_type='application/zip')
 
     def verified(self) -> Response:
         """The public check: whether number and code belong together."""
