@@ -58,7 +58,7 @@ export function listing({name, fixed = {}, given = {}, filters = [], columns, ro
     h('div', {class: 'buttons'},
       pages.length > 1 ? h('button', {type: 'button', 'data-at': 'before', onclick: () => { pages.pop(); load(pages.pop()); }}, t`Page before`) : null,
       answer.next ? h('button', {type: 'button', 'data-at': 'next', onclick: () => load(answer.next)}, t`Next page`) : null,
-      csv && answer.items.length ? csvLink(name, {...fixed, ...said}) : null),
+      csv && answer.items.length ? csvLink(name, {...fixed, ...said, folded: undefined}) : null),      // a file has each act
   ];
   load(null);
   return [filters.length ? form : null, shown];

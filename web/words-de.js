@@ -8,7 +8,7 @@ export const WORDS = {
   'Act': 'Vorgang', 'Selection': 'Auswahl', 'Holder': 'Inhaber', 'Issuing body': 'Ausstellende Stelle', 'Registry {}, date {}': 'Register {}, Datum {}', '1 certificate = 1 MWh': '1 Nachweis = 1 MWh',
   'Loading.': 'Wird geladen.', 'Looking.': 'Wird gesucht.', 'Sending.': 'Wird gesendet.', 'Signed in': 'Angemeldet', 'No holder code': 'Kein Inhaberkürzel',
   'You are signed in, but the issuing body has not assigned you a holder code yet.': 'Sie sind angemeldet, aber die ausstellende Stelle hat Ihnen noch kein Inhaberkürzel zugewiesen.',
-  'No answer came for': 'Ohne Antwort geblieben', 'Send again': 'Noch einmal senden', 'Go on': 'Fortsetzen', 'Leave the rest': 'Rest verwerfen', 'Leave it': 'Verwerfen', 'Go back': 'Zurück', 'Is this meant?': 'Ist das so gemeint?',
+  'No answer came for': 'Ohne Antwort geblieben', 'Send again': 'Noch einmal senden', 'Leave it': 'Verwerfen', 'Go back': 'Zurück', 'Is this meant?': 'Ist das so gemeint?',
   'This can’t be taken back.': 'Das lässt sich nicht zurücknehmen.', ' to ': ' bis ', 'Save as CSV': 'Als CSV speichern', 'Save as text': 'Als Text speichern', 'Print': 'Drucken', 'Page before': 'Vorige Seite', 'Next page': 'Nächste Seite',
   'Filters': 'Filter', 'Find': 'Suchen', 'Sort by {}': 'Ordnen nach {}', 'all': 'alle', 'none': 'keine', 'There is nothing here.': 'Hier ist nichts.', 'This is needed.': 'Das wird gebraucht.',
   'By the registry’s date {}, entry {}': 'Nach dem Datum des Registers, {}, Eintrag {}', 'The records are not there': 'Die Aufzeichnungen sind nicht da', 'The records are busy': 'Die Aufzeichnungen sind ausgelastet',
@@ -34,11 +34,15 @@ export const WORDS = {
   // a selection
   'Transfer the selection': 'Auswahl übertragen', 'Cancel the selection': 'Auswahl entwerten', 'Export the selection': 'Auswahl exportieren', 'Withdraw the selection': 'Auswahl zurückziehen', 'Nothing is chosen.': 'Nichts ist gewählt.', 'From account': 'Von Konto',
   'Ranges of numbers': 'Nummernbereiche', 'What is chosen': 'Was gewählt ist', 'Back to the holdings': 'Zurück zum Bestand', '{} certificates are left out': '{} Nachweise bleiben außen vor',
-  'Their trade is closed: they can be cancelled, but no longer transferred or exported.': 'Ihr Handel ist beendet: Sie lassen sich noch entwerten, aber nicht mehr übertragen oder exportieren.', 'Requests, one a range': 'Anträge, einer je Bereich', 'Requests answered': 'Beantwortete Anträge',
-  'Requests without an answer': 'Anträge ohne Antwort', 'The first of them may have been carried out: look at the history.': 'Der erste davon kann ausgeführt sein: sehen Sie im Verlauf nach.', 'Request {} of {}': 'Antrag {} von {}',
-  '{} of {} requests are answered.': '{} von {} Anträgen sind beantwortet.', '{} of {} requests are answered': '{} von {} Anträgen sind beantwortet', '{} of {} requests were refused': '{} von {} Anträgen wurden abgelehnt', 'All {} requests are accepted': 'Alle {} Anträge sind angenommen',
+  'Their trade is closed: they can be cancelled, but no longer transferred or exported.': 'Ihr Handel ist beendet: Sie lassen sich noch entwerten, aber nicht mehr übertragen oder exportieren.', 'Requests, one a range': 'Anträge, einer je Bereich', 
+  'Nothing was done: {}': 'Nichts wurde getan: {}', 'Request': 'Antrag', 'Under way': 'Unterwegs', '{} requests are on their way as one. This may take a minute.': '{} Anträge sind als einer unterwegs. Das kann eine Minute dauern.', 'They may have been carried out: look at the history.': 'Sie können ausgeführt sein: sehen Sie im Verlauf nach.',
+  '{} requests, sent as one.': '{} Anträge, als einer gesendet.', 'These are {} ranges of numbers': 'Das sind {} Nummernbereiche', 'At most {} go at once: choose fewer.': 'Höchstens {} gehen auf einmal: Wählen Sie weniger.', 'If one is refused': 'Wird einer abgelehnt', 'nothing is done': 'wird nichts getan', 'the others are done': 'werden die anderen ausgeführt', ' All or nothing: if one range is refused, nothing is done': ' Alles oder nichts: wird ein Bereich abgelehnt, wird nichts getan',
+  'cancellations {} to {}': 'Entwertungen {} bis {}', 'withdrawals {} to {}': 'Zurückziehungen {} bis {}', 'notices {} to {}': 'Mitteilungen {} bis {}', 'accounts {} to {}': 'Konten {} bis {}', '{} as one': '{} als einer', '{} not': '{} nicht',
+  'none of {} requests was carried out': 'keiner von {} Anträgen wurde ausgeführt', 'Bundle of entry {}': 'Bündel von Eintrag {}', 'Lines of the bundle': 'Zeilen des Bündels', 'Bundle': 'Bündel', 'line {} of entry {}': 'Zeile {} von Eintrag {}',
+  'Requests without an answer': 'Anträge ohne Antwort', 
+  '{} of {} requests were refused': '{} von {} Anträgen wurden abgelehnt', 'All {} requests are accepted': 'Alle {} Anträge sind angenommen',
   '{} certificates moved.': '{} Nachweise übertragen.', '{} certificates cancelled.': '{} Nachweise entwertet.', '{} certificates exported.': '{} Nachweise exportiert.', '{} certificates withdrawn.': '{} Nachweise zurückgezogen.', '{} devices registered.': '{} Anlagen eingetragen.',
-  'What is not answered stands at the head of the page and can be gone on with.': 'Was ohne Antwort blieb, steht am Kopf der Seite und lässt sich fortsetzen.', 'Refused': 'Abgelehnt', 'Answer': 'Antwort', 'One document for all of them, for printing': 'Ein gemeinsamer Entwertungsnachweis zum Drucken',
+  'Refused': 'Abgelehnt', 'Answer': 'Antwort', 'One document for all of them, for printing': 'Ein gemeinsamer Entwertungsnachweis zum Drucken',
   'Notices {}': 'Mitteilungen {}', 'Withdrawals {}': 'Zurückziehungen {}', '{} runs': '{} Nummernfolgen',
 
   // history
@@ -151,7 +155,7 @@ export const WORDS = {
   'Last seen: {}. ': 'Zuletzt gesehen: {}. ',
   'The registry keeps its own date. It is moved automatically each night; move it by hand only if that failed.': 'Das Register führt sein eigenes Datum. Es wird jede Nacht von selbst weitergestellt; stellen Sie es nur von Hand, wenn das ausblieb.',
   'Import of notice {} of registry {}': 'Import der Mitteilung {} von Register {}', 'Save notice {}': 'Mitteilung {} speichern',
-  ' Notice {} to registry {}, account {}: {} parts, saved.': ' Mitteilung {} an Register {}, Konto {}: {} Teile, gespeichert.', 'not answered': 'nicht beantwortet', 'Entered by the issuing body': 'Von der ausstellenden Stelle eingegeben',
+  ' Notice {} to registry {}, account {}: {} parts, saved.': ' Mitteilung {} an Register {}, Konto {}: {} Teile, gespeichert.', 'Entered by the issuing body': 'Von der ausstellenden Stelle eingegeben',
   'Entered by you': 'Von Ihnen eingegeben',
 
   // fields

@@ -30,6 +30,7 @@ BEGINNING = f'--begun {CODE} {DAY} 1'
 OWN = CODE * 10 ** 12
 HEADER = b'key,device,first_day,last_day,gross_wh,aux_wh\n'
 BAD, FORBIDDEN, CONFLICT = 400, 403, 409
+BUNDLES = '/v1/bundles'
 
 
 def status_of(outcome: bytes) -> int:
@@ -83,6 +84,17 @@ class Made:
         whole = {'command': command, 'key': key or f'k{self.keys}', **members}
         return self.send_body(caller, json.dumps(whole, ensure_ascii=False).encode())
 
+    def send_bundle(self, caller: str, requests: list[dict[str, Any]], route: str = BUNDLES,
+                    status: int = 200, answer: bytes = b'') -> list[dict[str, Any]]:
+        """A bundle, each line by itself, or one that was answered so; what its lines came to."""
+        lines = [json.dumps(of, ensure_ascii=False).encode() for of in requests]
+        answers = [] if answer else [self.model.line(b'%b %b' % (caller.encode(), line))
+                                     for line in lines]
+        told = answer or b''.join(b'%b\n' % one.strip() for one in answers)
+        self.take(self.record(caller, route, b''.join(b'%b\n' % line for line in lines), status,
+                              told))
+        return [json.loads(one) for one in answers]
+
     def must(self, caller: str, command: str, **members: Any) -> dict[str, Any]:
         """The reply to a request that has to be accepted."""
         told = self.send(caller, command, **members)
@@ -128,7 +140,8 @@ class Made:
         """Flask's client of the service over this book."""
         self.book().close()
         return web.application(self.folder, self.folder / 'state.json',
-                               etc=self.folder / 'etc').test_client()
+                               etc=self.folder / 'etc',
+                               attachments=self.folder / 'attachments').test_client()
 
     def asked(self, caller: str | None, path: str, **parameters: object) -> tuple[int, Any]:
         """Status and JSON of an answer."""

@@ -5,10 +5,12 @@ import io
 import json
 import random
 import time
+from pathlib import Path
 
 import pytest
 
 from goo_service.log import bounds
+from goo_service.log.closed import closed_in
 
 TODAY = datetime.date(2026, 3, 1)
 HEADER = b'key,device,first_day,last_day,gross_wh,aux_wh\n'
@@ -26,7 +28,7 @@ def status_of(found: bounds.Refusal | None) -> int | None:
 
 
 def refused(caller: str, body: bytes, confirmed: str = '') -> int | None:
-    return status_of(bounds.of_request(caller, body, TODAY, confirmed))
+    return status_of(bounds.of_request(caller, body, bounds.Host(TODAY, confirmed)))
 
 
 # ------------------------------------------------------------------ tables
@@ -107,9 +109,27 @@ def test_a_move_past_the_host_s_day_is_confirmed(day: str, confirmed: str,
 ])
 def test_no_spelling_of_such_a_move_goes_by(body: bytes) -> None:
     """The registry reads JSON as docs/FORMATS.md says: the last of two members counts."""
-    found = bounds.of_request('ISSUER', body, TODAY, '')
+    found = bounds.of_request('ISSUER', body, bounds.Host(TODAY))
     assert status_of(found) == 403
     assert found and '2036-01-01' in found.error and '2026-03-01' in found.error
+
+
+@pytest.mark.parametrize(('body', 'status'), [
+    (b'{"command":"import","notice":{"sender":8}}', 403),
+    (b'{"notice":{"sender":9,"sender":8},"command":"import"}', 403),
+    (b'{"command":"import","notice":{"sender":80}}', None),
+    (b'{"command":"import","notice":{"sender":[8]}}', None),
+    (b'{"command":"import","notice":8}', None),
+    (b'{"command":"add_peer","peer":8}', None)])
+def test_a_closed_registry_sends_nothing_more(tmp_path: Path, body: bytes,
+                                              status: int | None) -> None:
+    path = tmp_path / 'closed-registries'
+    host = bounds.Host(TODAY, '', closed_in(path))
+    assert bounds.of_request('ISSUER', body, host) is None
+    path.write_text('08 Registry of before, since 2025-03-01\n\n# none\n')
+    host = bounds.Host(TODAY, '', closed_in(path))
+    found = bounds.of_request('ISSUER', body, host)
+    assert status_of(found) == status and (not found or 'registry 8 is closed' in found.error)
 
 
 # ------------------------------------------------------------------ a holder's day

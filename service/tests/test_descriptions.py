@@ -5,7 +5,10 @@ from pathlib import Path
 from typing import Any
 
 import pytest
+from goo_service.records import feed
 from goo_service.records import parameters
+from goo_service.records.attachments import Attachments
+from goo_service.records.attachments import Content
 from described import Description
 from described import Operation
 from hypothesis import HealthCheck
@@ -21,12 +24,14 @@ RECORDS = Description('records.yaml')
 OPERATIONS = pytest.mark.parametrize('operation', RECORDS.operations,
                                      ids=[of.name for of in RECORDS.operations])
 CALLERS = strategies.sampled_from([ISSUER, 'SUN', 'VOLT', 'STRANGER'])
-THERE = {'account': '1', 'holder': 'SUN', 'table': 'a' * 20, 'count': '3', 'numbers': '1', 'number': '1'}
-"""Parameters that an operation needs, of what is there."""
 SENT = 'a' * 20
 """The digest of a table that was sent."""
+THERE = {'account': '1', 'holder': 'SUN', 'table': SENT, 'count': '3', 'numbers': '1',
+         'number': '1'}
+"""Parameters that an operation needs, of what is there."""
 BENEFICIARY = b'beneficiary,quantity,use_first,use_last\nRathaus,3,2025-01-01,2025-12-31\n'
-TABLES = {'plan': BENEFICIARY, 'doubts': HEADER + b'k1,%b,2026-07-01,2026-07-31,5,0\n' % DEVICE.encode()}
+TABLES = {'plan': BENEFICIARY,
+          'doubts': HEADER + b'k1,%b,2026-07-01,2026-07-31,5,0\n' % DEVICE.encode()}
 """What an operation is sent that takes a table."""
 QUICK = settings(max_examples=40, derandomize=True, suppress_health_check=list(HealthCheck))
 
@@ -56,7 +61,12 @@ def fill(made: Made) -> None:
     made.take(made.record('SUN', '/v1/requests', odd, 500, b'Set aside\n'))
     made.take(made.record('VOLT', '/v1/requests', b'{"command":"transfer","giver":0,"taker":99}',
                           403, b'Forbidden\n', role='reads'))
+    spans = [{'first': f'{first[1] + at:014}', 'last': f'{first[1] + at:014}'} for at in (40, 41)]
+    made.send_bundle('SUN', [{'command': 'transfer', 'key': f'b{at}', 'giver': 1, 'taker': 2, **of}
+                             for at, of in enumerate(spans)])
     made.must(ISSUER, 'advance', day='2026-08-01')
+    old = Content('SUN', 'statement.pdf', 'of the registry before', b'%PDF-1.7')
+    Attachments(made.folder / 'attachments').add([old], None)
 
 
 @pytest.fixture(scope='module')
@@ -90,7 +100,9 @@ def test_each_route_is_described_with_its_parameters() -> None:
 
 @OPERATIONS
 def test_answers_are_as_they_are_described(made: Made, known: dict[str, list[str]],
-                                           operation: Operation) -> None:
+                                           operation: Operation,
+                                           monkeypatch: pytest.MonkeyPatch) -> None:
+    monkeypatch.setattr(feed, 'moved_on', lambda *_: False)         # nobody waits for the next act
     client = made.client()
 
     def ask(path: str, query: dict[str, str], caller: str) -> int:

@@ -1,4 +1,5 @@
 """An old registry is brought over: its tables are judged, and nothing is lost or changed."""
+import hashlib
 import json
 import os
 import random
@@ -21,7 +22,9 @@ from cryptography.hazmat.primitives.serialization import PrivateFormat
 from hypothesis import given
 from hypothesis import strategies
 from goo_service.exchange.signature import Key
+from goo_service.log.closed import closed_in
 from goo_service.migrate import check
+from goo_service.migrate import documents
 from goo_service.migrate import enquiry
 from goo_service.migrate import plan
 from goo_service.migrate import protocol
@@ -33,6 +36,9 @@ from goo_service.migrate.numbers import NoRange
 from goo_service.migrate.numbers import Reader
 from goo_service.migrate.settings import Settings
 from goo_service.migrate.sums import compare
+from goo_service.records.attachments import Attachments
+from goo_service.records.questions import NotFound
+from goo_service.records.questions import Viewer
 from house import House
 from house import SERVICE
 from mutations import gsrn
@@ -301,6 +307,16 @@ def test_numbers_that_are_assigned_are_found_both_ways(folder: Path) -> None:
     assert enquiry.by_old_number(folder, read, old_registry.number(10 ** 9)) is None
 
 
+def test_a_rehearsal_goes_on_behind_what_one_run_takes(rehearsed: Path, tmp_path: Path,
+                                                       monkeypatch: pytest.MonkeyPatch) -> None:
+    monkeypatch.setattr(rehearsal, 'MOST_BYTES', 20_000)
+    steps = list(sending.steps_in(rehearsed))
+    portions = list(rehearsal.portions(steps))
+    assert len(portions) > 2 and [step for taken in portions for step in taken] == steps
+    place = copied(rehearsed, tmp_path)
+    assert rehearsal.rehearse(place, settings.read(place), GOO).comparison.differences == []
+
+
 def test_the_carried_energy_is_in_a_list(rehearsed: Path) -> None:
     lines = (rehearsed / plan.CARRIED).read_text(encoding='utf-8').splitlines()
     device, energy = old_registry.read_tables(rehearsed)['carried'][0]
@@ -379,6 +395,15 @@ def test_a_run_that_is_killed_goes_on_and_ends_the_same(empty_house: House,
     assert compare(tmp_path, read, empty_house.db).differences == []
 
 
+def test_the_old_registry_is_closed_once_it_is_over(rehearsed: Path, tmp_path: Path) -> None:
+    words = [*command('goo-migrate', SERVICE), 'close', str(rehearsed), '--closed',
+             str(tmp_path / 'closed')]
+    for _ in range(2):
+        subprocess.run(words, check=True, capture_output=True)
+    assert closed_in(tmp_path / 'closed') == {'8'}
+    assert len((tmp_path / 'closed').read_text().splitlines()) == 1
+
+
 def test_a_request_that_is_answered_otherwise_stops_the_run(tmp_path: Path) -> None:
     step = plan.Step('SUN', {'command': 'open_account', 'key': 'k'}, {'account': 1})
     with pytest.raises(sending.Stopped, match='planned was'):
@@ -407,3 +432,28 @@ def test_a_document_is_kept_with_its_hash(folder: Path) -> None:
     with work.opened(folder) as database:
         kept = database.execute('SELECT file, bytes FROM kept_document').fetchall()
     assert kept == [('statement.pdf', 12)]
+
+
+def test_a_document_is_shown_to_its_holder(folder: Path, tmp_path: Path) -> None:
+    (folder / 'documents').mkdir()
+    (folder / 'documents/statement.pdf').write_bytes(b'%PDF-1.7 old')
+    (folder / 'tables/documents.csv').write_text(
+        'file,holder,about\nstatement.pdf,H00001,Last statement\n', encoding='utf-8')
+    _, found = checked(folder)
+    assert found.open == 0
+    into = tmp_path / 'attachments'
+    assert documents.attach(folder, into) == 1 and documents.attach(folder, into) == 0
+    shown = Attachments(into)
+    digest = hashlib.sha256(b'%PDF-1.7 old').hexdigest()
+    for viewer, sees in (('ISSUER', True), ('H00001', True), ('H00002', False)):
+        rows = list(shown.listed(Viewer(viewer), {}).rows)
+        assert [row['sha256'] for row in rows] == ([digest] if sees else [])
+    assert shown.content(Viewer('H00001'), 1)[1] == b'%PDF-1.7 old'
+    with pytest.raises(NotFound):
+        shown.content(Viewer('H00002'), 1)
+    (into / digest).write_bytes(b'%PDF-1.7 new')
+    with pytest.raises(OSError, match='not the file'):
+        shown.content(Viewer('ISSUER'), 1)
+    (folder / 'documents/statement.pdf').write_bytes(b'%PDF-1.7 now')
+    with pytest.raises(documents.NoDocument, match='not the file'):
+        documents.attach(folder, into)

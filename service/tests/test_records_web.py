@@ -14,7 +14,7 @@ from made_book import Made
 from goo_service.common.rules import ISSUER
 
 ROUTES = {'acts/NUMBER': 'acts/1', 'certificates/NUMBER': 'certificates/7000000000001',
-          'cancellations/NUMBER': 'cancellations/1'}
+          'cancellations/NUMBER': 'cancellations/1', 'attachments/NUMBER': 'attachments/1'}
 TABLE = HEADER + b'k1,500000000000000012,2026-01-01,2026-01-31,5,0\n'
 """What a route is sent that takes a table."""
 NEEDED: dict[str, dict[str, object]] = {

@@ -77,8 +77,17 @@ def members(body: bytes) -> dict[str, object]:
     return read if isinstance(read, dict) else {}
 
 
-def of_request(caller: str, body: bytes, today: datetime.date, confirmed: str) -> Refusal | None:
-    """`today` is the host's own day, `confirmed` the day that was confirmed there, or no text.
+@dataclasses.dataclass(frozen=True)
+class Host:
+    """What a host says of itself: its day, the day that was confirmed on it, closed registries."""
+
+    today: datetime.date
+    confirmed: str = ''
+    closed: frozenset[str] = frozenset()
+
+
+def of_request(caller: str, body: bytes, host: Host) -> Refusal | None:
+    """Of a request by itself.
 
     The issuing body's requests alone are read: no other caller imports notices or moves the date.
     """
@@ -87,21 +96,24 @@ def of_request(caller: str, body: bytes, today: datetime.date, confirmed: str) -
     if len(body) > REQUEST and command != 'import':
         return Refusal(413, f'the request has {len(body)} bytes; at most {REQUEST} are taken, '
                             f'and {BODY} of an import by the issuing body')
-    if command == 'advance' and is_later(day, today) and confirmed != day:
-        return Refusal(403, f'the day {day} is after the day of the host, {today}: '
+    if command == 'advance' and is_later(day, host.today) and host.confirmed != day:
+        return Refusal(403, f'the day {day} is after the day of the host, {host.today}: '
                             f'such a move of the date has to be confirmed on the host')
+    notice = read.get('notice')
+    sender = notice.get('sender') if command == 'import' and isinstance(notice, dict) else None
+    if isinstance(sender, str) and sender in host.closed:
+        return Refusal(403, f'registry {sender} is closed: its notices are taken no more')
     return None
 
 
-def of_bundle(caller: str, body: bytes, is_whole: bool, today: datetime.date,
-              confirmed: str) -> Refusal | None:
+def of_bundle(caller: str, body: bytes, is_whole: bool, host: Host) -> Refusal | None:
     """Of a bundle: its form, its lines, and each of them as a request by itself."""
     try:
         lines = bundles.read(body)
     except bundles.Unreadable as fault:
         return Refusal(413 if body.count(b'\n') > bundles.LINES else 400, str(fault))
     for line in lines:
-        if refusal := of_request(caller, line.body, today, confirmed):
+        if refusal := of_request(caller, line.body, host):
             return Refusal(refusal.status, f'line {line.number}: {refusal.error}')
         if is_whole and line.command not in bundles.TRIED:
             return Refusal(400, f'line {line.number}: a bundle that is applied whole or not at all '

@@ -5,6 +5,7 @@ import datetime
 import json
 import time
 from collections.abc import Coroutine
+from pathlib import Path
 from typing import TYPE_CHECKING
 from typing import Any
 
@@ -15,6 +16,7 @@ from goo_service.log import entries
 from goo_service.log import health
 from goo_service.log import roles
 from goo_service.log import underway
+from goo_service.log.closed import closed_in
 from goo_service.log.door import Call
 from goo_service.log.door import Fields
 from goo_service.log.door import Reply
@@ -112,11 +114,12 @@ class Service:
         """
         if call.target == bounds.TABLES:
             return bounds.of_table(call.body)
-        today = datetime.date.today()
+        closed = closed_in(Path(self.replica.options.closed))
+        host = bounds.Host(datetime.date.today(), call.confirmed, closed)
         if call.target in bundles.ROUTES:
             is_whole = call.target == bundles.WHOLE
-            return bounds.of_bundle(call.caller, call.body, is_whole, today, call.confirmed)
-        return bounds.of_request(call.caller, call.body, today, call.confirmed)
+            return bounds.of_bundle(call.caller, call.body, is_whole, host)
+        return bounds.of_request(call.caller, call.body, host)
 
     # -------------------------------------------------------------- writes
 

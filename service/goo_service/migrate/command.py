@@ -7,6 +7,8 @@ usage: goo-migrate check FOLDER
        goo-migrate compare FOLDER DATABASE
        goo-migrate protocol FOLDER DATABASE --key FILE
        goo-migrate verify FOLDER [--public KEY]
+       goo-migrate attach FOLDER
+       goo-migrate close FOLDER
        goo-migrate find FOLDER NUMBER [--new]
 
 FOLDER has the settings, migration.toml, and the old registry's tables in tables/ (MIGRATING.md).
@@ -15,7 +17,9 @@ that nobody waived by its name. `plan` writes the requests. `rehearse` carries t
 registry of its own, in the folder `rehearsal`, and compares. `run` sends them to the log of this
 host; it may be stopped, and goes on when it is called again. `compare` and `protocol` hold a copy
 of the registry's database (of /var/backups/goo) against the tables; `protocol` signs what was
-found. `verify` checks a protocol and the files beside it. `find` tells what became of a number.
+found. `verify` checks a protocol and the files beside it. `attach` has the records of this host
+show the documents of the old registry to their holders. `close` has the log of this host take no
+notice of the old registry any more. `find` tells what became of a number.
 
 Exit status 0 where all is well, 1 where a fault or a difference was found, 2 for a usage error, 3
 where something can't be read or was not answered.
@@ -28,8 +32,12 @@ from pathlib import Path
 
 from goo_service.common.client import FULL
 from goo_service.common.client import Client
+from goo_service.common.files import write_whole
 from goo_service.exchange.signature import Key
+from goo_service.log import closed
+from goo_service.log.closed import closed_in
 from goo_service.migrate import check
+from goo_service.migrate import documents
 from goo_service.migrate import enquiry
 from goo_service.migrate import plan
 from goo_service.migrate import protocol
@@ -69,6 +77,12 @@ def words() -> argparse.Namespace:
         if name == 'verify':
             verb.add_argument('--public', metavar='KEY',
                               help='the public key that must have signed')
+        if name == 'attach':
+            verb.add_argument('--into', type=Path, default=Path(documents.ATTACHMENTS),
+                              metavar='FOLDER', help=f'of the records ({documents.ATTACHMENTS})')
+        if name == 'close':
+            verb.add_argument('--closed', type=Path, default=Path(closed.PATH), metavar='FILE',
+                              help=f'the list of closed registries ({closed.PATH})')
         if name == 'find':
             verb.add_argument('number', metavar='NUMBER')
             verb.add_argument('--new', action='store_true', help='it is a new number')
@@ -127,6 +141,23 @@ def do_verify(given: argparse.Namespace, settings: Settings) -> int:
     return FOUND if faults else GOOD
 
 
+def do_attach(given: argparse.Namespace, settings: Settings) -> int:
+    del settings
+    count = documents.attach(given.folder, given.into)
+    print(f'{count:,} documents are new in {given.into}')
+    return GOOD
+
+
+def do_close(given: argparse.Namespace, settings: Settings) -> int:
+    path = given.closed
+    line = f'{settings.old_code:02} {settings.old_name}, brought over by goo-migrate\n'
+    if str(settings.old_code) not in closed_in(path):
+        before = path.read_text(encoding='utf-8') if path.exists() else ''
+        write_whole(path, before + line, mode=0o644)
+    print(f'{path}: notices of registry {settings.old_code:02} are taken no more')
+    return GOOD
+
+
 def do_find(given: argparse.Namespace, settings: Settings) -> int:
     found = (enquiry.by_new_number(given.folder, given.number) if given.new
              else enquiry.by_old_number(given.folder, settings, given.number))
@@ -145,9 +176,10 @@ def tell_comparison(found: Comparison) -> int:
 
 
 VERBS = {'check': do_check, 'plan': do_plan, 'rehearse': do_rehearse, 'run': do_run,
-         'compare': do_compare, 'protocol': do_protocol, 'verify': do_verify, 'find': do_find}
-FAULTS = (OSError, sqlite3.Error, WrongSettings, plan.NotPlanned, sending.Stopped, NoRange,
-          ValueError)
+         'compare': do_compare, 'protocol': do_protocol, 'verify': do_verify,
+         'attach': do_attach, 'close': do_close, 'find': do_find}
+FAULTS = (OSError, LookupError, sqlite3.Error, WrongSettings, plan.NotPlanned, sending.Stopped,
+          NoRange, ValueError)
 
 
 def main() -> int:

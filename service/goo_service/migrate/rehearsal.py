@@ -8,16 +8,21 @@ import resource
 import shutil
 import subprocess
 import time
+from collections.abc import Iterable
+from collections.abc import Iterator
 from dataclasses import dataclass
 from pathlib import Path
 
 from goo_service.migrate import sending
+from goo_service.migrate.plan import Step
 from goo_service.migrate.settings import Settings
 from goo_service.migrate.sums import Comparison
 from goo_service.migrate.sums import compare
 
 FOLDER, DATABASE = 'rehearsal', 'registry.db'
 HOURS = 24 * 3600
+MOST_BYTES = 16 << 20
+"""Of the input of one run (docs/FORMATS.md)."""
 
 
 @dataclass(frozen=True)
@@ -49,30 +54,43 @@ def rehearse(folder: Path, settings: Settings, program: str) -> Rehearsed:
     registry = place / DATABASE
     called([program, 'init', '--db', str(registry), '--code', str(settings.new_code), '--today',
             settings.date])
-    requests = place / 'requests'
-    with requests.open('w', encoding='utf-8') as file:
-        for step in sending.steps_in(folder):
-            file.write(f'ISSUER {json.dumps(step.body, ensure_ascii=False)}\n')
     begun = time.monotonic()
-    carry_out(folder, program, registry, requests)
+    for steps in portions(sending.steps_in(folder)):
+        carry_out(program, registry, steps)
     seconds = time.monotonic() - begun
-    requests.unlink()
     memory = resource.getrusage(resource.RUSAGE_CHILDREN).ru_maxrss * 1024
     return Rehearsed(count, seconds, memory, registry.stat().st_size,
                      compare(folder, settings, registry))
 
 
-def carry_out(folder: Path, program: str, registry: Path, requests: Path) -> None:
-    """Runs the requests, and judges each outcome."""
-    answers = requests.with_name('answers')
-    with requests.open('rb') as lines, answers.open('wb') as file:
-        done = subprocess.run([program, 'run', '--db', str(registry)], stdin=lines, stdout=file,
-                              stderr=subprocess.PIPE, check=False, timeout=HOURS)
+def line_of(step: Step) -> bytes:
+    """A request as the program reads it."""
+    return f'ISSUER {json.dumps(step.body, ensure_ascii=False)}\n'.encode()
+
+
+def portions(steps: Iterable[Step]) -> Iterator[list[Step]]:
+    """The requests, as many at a time as one run of the program takes."""
+    taken: list[Step] = []
+    size = 0
+    for step in steps:
+        length = len(line_of(step))
+        if taken and size + length > MOST_BYTES:
+            yield taken
+            taken, size = [], 0
+        taken.append(step)
+        size += length
+    if taken:
+        yield taken
+
+
+def carry_out(program: str, registry: Path, steps: list[Step]) -> None:
+    """Runs requests, and judges each outcome."""
+    done = subprocess.run([program, 'run', '--db', str(registry)], capture_output=True,
+                          input=b''.join(map(line_of, steps)), check=False, timeout=HOURS)
     if done.returncode not in (0, 1):
         raise sending.Stopped(f'{program} run: {done.stderr.decode(errors="replace").strip()}')
-    with answers.open(encoding='utf-8') as outcomes:
-        for step, line in zip(sending.steps_in(folder), outcomes, strict=True):
-            sending.judge(step, json.loads(line), line.strip())
+    for step, line in zip(steps, done.stdout.decode().splitlines(), strict=True):
+        sending.judge(step, json.loads(line), line)
 
 
 def called(words: list[str]) -> None:

@@ -2,6 +2,7 @@
 import bisect
 import sqlite3
 from collections.abc import Iterator
+from dataclasses import dataclass
 from typing import Any
 
 from goo_service.records.questions import Condition
@@ -47,17 +48,33 @@ FIRST, LAST = (f'CASE WHEN moved.lot = moved.to_lot THEN moved.{end} ELSE lot.{o
 of them then (moves.py)."""
 
 
-def acts(database: sqlite3.Connection, viewer: Viewer, given: Given) -> Listed:
-    """Acts that the viewer may see, the newest first. `before` is the id to go on from."""
+@dataclass(frozen=True)
+class Found:
+    """The acts that fit a question: where the reading of them begins, and their ids."""
+
+    tables: str
+    column: str
+    conditions: Conditions
+    low: int
+    high: int
+
+
+def found_by(database: sqlite3.Connection, viewer: Viewer, given: Given) -> Found:
     low, high = ids_of(database, given)
     start, conditions = start_of(database, viewer, given, high - low)
     tables, column = STARTS[start]
     conditions.add(f'{column} BETWEEN ? AND ?', (low, high))
     conditions.add_given(ACT_FILTERS, given)
     add_words(conditions, viewer, given)
-    limit = limit_of(given)
-    found = read(database, f'''SELECT act.* FROM {tables} WHERE {conditions.where}
-                               ORDER BY {column} DESC LIMIT ?''', (*conditions.values, limit))
+    return Found(tables, column, conditions, low, high)
+
+
+def acts(database: sqlite3.Connection, viewer: Viewer, given: Given) -> Listed:
+    """Acts that the viewer may see, the newest first. `before` is the id to go on from."""
+    of, limit = found_by(database, viewer, given), limit_of(given)
+    found = read(database, f'''SELECT act.* FROM {of.tables} WHERE {of.conditions.where}
+                               ORDER BY {of.column} DESC LIMIT ?''',
+                 (*of.conditions.values, limit))
     shown = (shown_act(database, viewer, act, RANGES) for act in found.rows)
 
     def beside(acts: list[Row]) -> Row:
@@ -111,8 +128,9 @@ def ids_of(database: sqlite3.Connection, given: Given) -> tuple[int, int]:
     """
     most, = database.execute('SELECT coalesce(max(id), 0) FROM act').fetchone()
     entry, before = number_of(given, 'entry'), number_or(most + 1, given, 'before')
+    after = entry if entry is not None else after_of(given)
     ids, low, high = range(1, most + 1), 1, min(before - 1, most)
-    for column, first, last in (('entry', entry, entry),
+    for column, first, last in (('entry', after, entry),
                                 ('day', day_of(given, 'from'), day_of(given, 'to'))):
         def value_of(number: int, column: str = column) -> Any:
             query = f'SELECT {column} FROM act WHERE id = ?'
@@ -123,6 +141,12 @@ def ids_of(database: sqlite3.Connection, given: Given) -> tuple[int, int]:
         if last is not None:
             high = min(high, bisect.bisect_right(ids, last, key=value_of))
     return low, high
+
+
+def after_of(given: Given) -> int | None:
+    """The first entry of a feed, which is the one after `after`."""
+    entry = (given.get('after') or '').partition('.')[0]
+    return int(entry) + 1 if entry.isdecimal() else None
 
 
 def add_words(conditions: Conditions, viewer: Viewer, given: Given) -> None:
@@ -207,14 +231,18 @@ def ranges_of(database: sqlite3.Connection, viewer: Viewer, number: int) -> list
         ORDER BY moved.first, lot.id''', (number, *from_values, *to_values))
 
 
-def joined(ranges: list[Row]) -> list[Row]:
+WAY = ('lot', 'account', 'from_account', 'place')
+"""What ranges of one act have in common that are told as one."""
+
+
+def joined(ranges: list[Row], same: tuple[str, ...] = WAY) -> list[Row]:
     """Ranges in rising order, those made one that follow each other in the same lot and went the
     same way."""
     longest: list[Row] = []
     for span in ranges:
         last = longest[-1] if longest else None
         if last and last['last'] == span['first'] - 1 and all(
-                last[name] == span[name] for name in ('lot', 'account', 'from_account', 'place')):
+                last[name] == span[name] for name in same):
             longest[-1] = {**last, 'last': span['last'], 'count': last['count'] + span['count']}
         else:
             longest.append(span)

@@ -17,13 +17,14 @@ HELD = ('account', 'q', 'tradable', *LOT_FILTERS)
 SUMMED = ('tech', 'source', 'carrier', 'country', 'device')
 PARAMETERS: dict[str, tuple[str, ...]] = {
     'acts': (*ACT_FILTERS, 'account', 'key', 'entry', 'from', 'to', 'q', 'before', 'limit',
-             'format'),
+             'format', 'folded', 'after', 'wait'),
     'holdings': ('by', 'place', 'sort', *HELD, *PAGE),
     'deadlines': ('days', *HELD, *PAGE),
     'choice': ('count', 'order', 'act', *HELD, 'format'),
     'holders': PAGE,
     'withdrawals': PAGE,
     'undeclared': ('month', 'account', *PAGE),
+    'attachments': PAGE,
     'directory': PAGE,
     'party': ('account', 'holder', 'peer'),
     'statistics': ('by', 'from', 'to', *SUMMED, *PAGE),
@@ -31,6 +32,7 @@ PARAMETERS: dict[str, tuple[str, ...]] = {
     'acts/NUMBER': (),
     'certificates/NUMBER': (),
     'cancellations/NUMBER': (),
+    'attachments/NUMBER': (),
     'documents': ('numbers', 'lang'),
     'doubts': (),
     'plan': ('command', 'account'),

@@ -4,9 +4,11 @@ docs/RECORDS.md has the routes.
 gunicorn runs `application()`. The front door names the caller by GOO-Caller, as it does for the
 registry, and nothing else reaches this service's socket. GOO_RECORDS names the folder with the book
 and the key of check codes, GOO_EXCHANGE the file in which the exchange writes what became of
-notices, GOO_ETC the folder with what the issuing body says of itself, GOO_RECORDS_DIRECTORY says
-whether holders see whose accounts there are.
+notices, GOO_ETC the folder with what the issuing body says of itself, GOO_ATTACHMENTS the folder of
+documents that were brought over, GOO_RECORDS_DIRECTORY says whether holders see whose accounts
+there are.
 """
+import contextlib
 import functools
 import itertools
 import json
@@ -21,6 +23,7 @@ from collections.abc import Iterator
 from dataclasses import dataclass
 from pathlib import Path
 from typing import Any
+from urllib.parse import quote
 
 from flask import Flask
 from flask import Response
@@ -33,7 +36,11 @@ from goo_service.records import acts
 from goo_service.records import certificates
 from goo_service.records import documents
 from goo_service.records import doubts
+from goo_service.records import feed
+from goo_service.records import folded
+from goo_service.records import known
 from goo_service.records import lists
+from goo_service.records.attachments import Attachments
 from goo_service.records.body import read_body
 from goo_service.records.code_lists import lists_of
 from goo_service.records.files import csv_of
@@ -52,6 +59,7 @@ from goo_service.records.questions import NotFound
 from goo_service.records.questions import Row
 from goo_service.records.questions import TooFew
 from goo_service.records.questions import Viewer
+from goo_service.records.questions import is_set
 from goo_service.records.questions import standing
 from goo_service.records.schema import Mismatch
 from goo_service.records.schema import read_moment
@@ -59,6 +67,7 @@ from goo_service.records.schema import read_moment
 FOLDER = Path('/var/lib/goo-records')
 EXCHANGE = FOLDER / 'exchange.json'
 ETC = Path('/etc/goo')
+ATTACHMENTS = Path('/var/lib/goo-attachments')
 PAGES = (Path(__file__).resolve().parents[3] / 'docs/records.yaml',
          Path('/usr/share/goo/api/records.yaml'))
 CALLER = re.compile(r'[A-Z0-9][A-Z0-9_-]{0,15}')
@@ -84,6 +93,8 @@ class Limits:
     question: float = 10
     file: float = 60
     files: int = 2
+    waiting: int = 8
+    """Readers in one process that wait for the next act. Its other threads answer."""
 
 
 LIMITS = Limits()
@@ -119,7 +130,7 @@ class Timed(sqlite3.Connection):
 
 Answer = Response | Listed | Row
 ListOf = Callable[[sqlite3.Connection, Viewer, Given], Listed]
-OneOf = Callable[[sqlite3.Connection, Viewer, int], Row]
+OneOf = Callable[[sqlite3.Connection, Viewer, int], Answer]
 OtherOf = Callable[[sqlite3.Connection, Viewer, Given], Answer]
 PostedOf = Callable[[sqlite3.Connection, Viewer, Given, bytes], Row]
 
@@ -146,21 +157,24 @@ class Service:
     """What a route needs: the present book, the key of check codes, and what the exchange wrote."""
 
     def __init__(self, folder: Path, exchange: Path, limits: Limits = LIMITS,
-                 etc: Path = ETC, shows_directory: bool = True) -> None:
+                 etc: Path = ETC, shows_directory: bool = True,
+                 attachments: Path = ATTACHMENTS) -> None:
         self.folder, self.exchange, self.etc, self.limits = folder, exchange, etc, limits
         self.parties = Parties(exchange, shows_directory)
+        self.kept = Attachments(attachments)
         self.files = threading.BoundedSemaphore(limits.files)
+        self.waiting = feed.Waiting(limits.waiting)
         self.lists: dict[str, ListOf] = {
-            'acts': acts.acts, 'holdings': certificates.holdings,
+            'acts': acts_of, 'holdings': certificates.holdings,
             'deadlines': certificates.deadlines, 'choice': certificates.choice,
             'holders': lists.holders, 'withdrawals': lists.withdrawals,
             'statistics': lists.statistics, 'undeclared': doubts.undeclared,
             'directory': self.parties.directory,
             **{name: functools.partial(lists.listed, name) for name in lists.LISTS},
-            'notices': self.notices}
+            'notices': self.notices, 'attachments': self.attachments}
         self.ones: dict[str, OneOf] = {
             'acts': acts.act, 'certificates': certificates.certificate,
-            'cancellations': self.cancellation}
+            'cancellations': self.cancellation, 'attachments': self.attachment}
         self.others: dict[str, OtherOf] = {
             'status': self.status, 'documents': self.documents, 'party': self.party,
             'papers': self.papers}
@@ -213,7 +227,12 @@ class Service:
         except (sqlite3.Error, Mismatch, OSError):
             return reply(503, {'error': 'the records are being made'}, **BUSY)
         try:
-            response = self.response(answer(database, given), database, name, is_file)
+            tag = known.tag_of(name, database, self.exchange)
+            if known.is_known(tag):
+                response = Response(status=304, headers={**HEADERS, 'ETag': tag})
+            else:
+                response = self.response(answer(database, given), database, name, is_file)
+                known.add_tag(response, tag)
         except FAULTS as error:
             response = self.failure(error, database.is_late(), seconds)
         except BaseException:
@@ -268,6 +287,47 @@ class Service:
         finally:
             self.files.release()
 
+    def named(self, name: str) -> Response:
+        """The answer of a list, or of another route without a number."""
+        if name == 'acts' and request.args.get('wait'):
+            return self.followed()
+        answer = self.lists.get(name) or self.others.get(name)
+        if answer is None:
+            return reply(404, {'error': f'there is no list {name}'})
+        return self.for_viewer(name, answer)
+
+    def followed(self) -> Response:
+        """Acts after an entry. Where there is none, the answer is held back for a while."""
+        try:
+            seconds = feed.seconds_of(parameters_of('acts', request.args))
+        except BadQuestion as error:
+            return reply(400, {'error': str(error)})
+        until = time.monotonic() + seconds
+        user = request.headers.get('GOO-User') or request.headers.get('GOO-Caller') or ''
+        try:
+            with self.waiting.one(user):
+                return self.held_back(until)
+        except feed.TooMany:
+            text = f'{user} waits already, or {self.limits.waiting} others do: ask again later'
+            return reply(503, {'error': text}, **BUSY)
+
+    def held_back(self, until: float) -> Response:
+        """The answer, once it has an act or the time is over."""
+        while True:
+            seen = self.entry()
+            response = self.for_viewer('acts', acts_of)
+            if not says_nothing(response) or not feed.moved_on(self.entry, seen, until):
+                return response
+            response.close()
+
+    def entry(self) -> int | None:
+        """That by which the book stands; None while there is none."""
+        try:
+            with contextlib.closing(self.book(time.monotonic() + 1)) as database:
+                return int(standing(database)['entry'])
+        except FAULTS:
+            return None
+
     def table(self, name: str) -> Response:
         """The answer to a table that is sent to be looked at. Nothing of it is kept."""
         if name not in self.posted:
@@ -321,6 +381,16 @@ class Service:
         fields = {**HEADERS, 'Content-Disposition': f'attachment; filename="{name}"'}
         return Response(whole, 200, fields, content_type='application/zip')
 
+    def attachments(self, _: sqlite3.Connection, viewer: Viewer, given: Given) -> Listed:
+        return self.kept.listed(viewer, given)
+
+    def attachment(self, _: sqlite3.Connection, viewer: Viewer, number: int) -> Response:
+        """A document that was brought over. A browser saves it, and never opens it here."""
+        found, content = self.kept.content(viewer, number)
+        name = quote(found.file, safe='')
+        fields = {**HEADERS, 'Content-Disposition': f"attachment; filename*=UTF-8''{name}"}
+        return Response(content, 200, fields, content_type='application/octet-stream')
+
     def verified(self) -> Response:
         """The public check: whether number and code belong together."""
         def answer(database: sqlite3.Connection, given: Given) -> Response:
@@ -331,6 +401,23 @@ class Service:
             return reply(200, {'valid': True, **found})
 
         return self.for_anybody('verify', answer)
+
+
+def says_nothing(response: Response) -> bool:
+    """Whether an answer has no act, or none that is not known."""
+    status = response.status_code
+    return status == 304 or status == 200 and b'"items":[]' in response.data[:400]
+
+
+def acts_of(database: sqlite3.Connection, viewer: Viewer, given: Given) -> Listed:
+    """Acts: the newest first, with each bundle as one row where that is asked for, or as they come
+    after an entry."""
+    feed.seconds_of(given)
+    if 'after' in given:
+        return feed.acts(database, viewer, given)
+    if is_set(given, 'folded'):
+        return folded.acts(database, viewer, given)
+    return acts.acts(database, viewer, given)
 
 
 def read_key(path: Path) -> bytes:
@@ -375,19 +462,18 @@ def shows_directory() -> bool:
 
 
 def application(folder: Path | None = None, exchange: Path | None = None,
-                limits: Limits = LIMITS, etc: Path | None = None) -> Flask:
+                limits: Limits = LIMITS, etc: Path | None = None,
+                attachments: Path | None = None) -> Flask:
     """The service as a WSGI application."""
     service = Service(folder or Path(os.environ.get('GOO_RECORDS', FOLDER)),
                       exchange or Path(os.environ.get('GOO_EXCHANGE', EXCHANGE)),
-                      limits, etc or Path(os.environ.get('GOO_ETC', ETC)), shows_directory())
+                      limits, etc or Path(os.environ.get('GOO_ETC', ETC)), shows_directory(),
+                      attachments or Path(os.environ.get('GOO_ATTACHMENTS', ATTACHMENTS)))
     app = Flask('goo-records', static_folder=None)
 
     @app.get('/records/v1/<name>')
     def a_list(name: str) -> Response:
-        answer = service.lists.get(name) or service.others.get(name)
-        if answer is None:
-            return reply(404, {'error': f'there is no list {name}'})
-        return service.for_viewer(name, answer)
+        return service.named(name)
 
     @app.get('/records/v1/<name>/<int:number>')
     def one(name: str, number: int) -> Response:
@@ -404,13 +490,14 @@ def application(folder: Path | None = None, exchange: Path | None = None,
 
     app.get('/records/v1/openapi.yaml')(description)
     app.get('/verify')(service.verified)
-
-    @app.errorhandler(404)
-    def missing(_: Exception) -> Response:
-        return reply(404, {'error': f'there is no {request.path}'})
-
-    @app.errorhandler(405)
-    def not_allowed(_: Exception) -> Response:
-        return reply(405, {'error': 'the records are only read'})
-
+    app.register_error_handler(404, missing)
+    app.register_error_handler(405, not_allowed)
     return app
+
+
+def missing(_: Exception) -> Response:
+    return reply(404, {'error': f'there is no {request.path}'})
+
+
+def not_allowed(_: Exception) -> Response:
+    return reply(405, {'error': 'the records are only read'})
