@@ -56,7 +56,7 @@ export function manyBy(command) {
     shown.replaceChildren(h('p', {class: 'quiet'}, 'Looking.'));
     let made;
     try { made = await looked(command, Number(box.value), file, shown); } catch (fault) { made = [result(problemOf(fault))]; }
-    shown.replaceChildren(...made.flat(Infinity).filter(Boolean));
+    shown.replaceChildren(...[made].flat(Infinity));
   };
   const columns = [...own, ...OTHERS];
   return h('section', {class: 'many'}, h('h2', {}, title), h('div', {class: 'field'}, h('label', {for: 'plan-account'}, t`From your account`), box),
@@ -104,7 +104,7 @@ function ready(command, name, plan, shown) {
   const act = t(COMMANDS[command].act), {rows} = plan;
   const button = h('button', {type: 'button', class: 'main', onclick: () => busy(button, async () => {
     if (await isMeant(command, name, plan)) await send(command, name, plan, shown);
-  })}, act, ' ', certificatesOf(sum(rows)));
+  })}, `${act}: ${count(sum(rows))}`);
   return [result({kept: true, title: t`${rowsOf(rows.length)}, ${certificatesOf(sum(rows))} chosen`, sentence: t`Nothing is sent yet.`}),
     h('div', {class: 'buttons'}, button),
     longTable(h('span', {}, written(name)), PLANNED, rows.map((of) => [count(of.row), whomOf(command, of), count(of.count), chosenOf(of), between(...of.produced)]))];
