@@ -10,6 +10,7 @@ from goo_service.records.plan import Fault
 from goo_service.records.plan import Run
 from goo_service.records.plan import Want
 from hypothesis import given
+from hypothesis import settings
 from hypothesis import strategies
 
 DAYS = ('2025-01-31', '2025-02-28', '2025-03-31')
@@ -81,6 +82,7 @@ def test_each_row_gets_its_quantity_of_what_fits_and_nothing_twice(
     assert len(given_out) == len(set(given_out))
 
 
+@settings(max_examples=500)
 @given(tables())
 def test_a_row_is_short_only_where_no_choice_serves_all(
         table: tuple[list[Run], list[Want]]) -> None:
@@ -136,12 +138,13 @@ def test_what_is_short_is_told_by_its_field() -> None:
 
 
 def test_a_row_gives_up_what_another_one_needs() -> None:
-    """Filters that cross: the first row could have taken all that the others can take."""
+    """Filters that cross: the first row takes the oldest, which the second one needs as well."""
     runs = [Run(1, 10, DAYS[0], tech='T01', country='DE'),
             Run(11, 20, DAYS[1], tech='T01', country='AT'),
             Run(21, 30, DAYS[2], tech='T02', country='DE')]
-    wants = [Want(1, 10, tech='T01'), Want(2, 10, country='DE'), Want(3, 10)]
-    assert plan.planned(runs, wants).faults == []
+    found = plan.planned(runs, [Want(1, 10, tech='T01'), Want(2, 20, country='DE')])
+    assert found.faults == []
+    assert found.ranges == {1: [(11, 20)], 2: [(1, 10), (21, 30)]}
 
 
 def many() -> Iterator[Run]:

@@ -24,7 +24,7 @@ from made_book import CODE
 from made_book import DAY
 from made_book import Logged
 from made_book import rows_of_book
-from records_trial import Requests
+from acts_by_chance import Requests
 
 ACTS = 240
 """Requests by chance besides those that begin a country."""

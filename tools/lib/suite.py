@@ -17,7 +17,7 @@ from tally import ended
 
 TOP = Path(__file__).resolve().parents[2]
 TESTS = TOP / 'service/tests'
-RERUNS = 2
+RERUNS, SHOWN = 2, 400
 
 
 def is_there(sign: str) -> bool:
@@ -39,8 +39,8 @@ class Counter:
 
     def __init__(self) -> None:
         self.passed = self.failed = self.skipped = 0
-        self.again: dict[str, int] = {}
-        """The tests that were tried again, and how often."""
+        self.again: dict[str, list[str]] = {}
+        """The tests that were tried again, each with what was wrong before."""
 
     def pytest_runtest_logreport(self, report: Any) -> None:
         """A test counts once, by its call; what fails or is skipped around it counts too."""
@@ -48,7 +48,9 @@ class Counter:
         self.failed += report.failed
         self.skipped += report.skipped
         if report.outcome == 'rerun':
-            self.again[report.nodeid] = self.again.get(report.nodeid, 0) + 1
+            crash = getattr(report.longrepr, 'reprcrash', None)
+            told = crash.message if crash else str(report.longrepr)
+            self.again.setdefault(report.nodeid, []).append(' '.join(told.split())[:SHOWN])
 
     def pytest_collectreport(self, report: Any) -> None:
         """A file that can't be read has failed."""
@@ -72,8 +74,9 @@ def run(tool: str, tests: Sequence[Path | str], words: Sequence[str], workers: i
         status = pytest.main(['-q', f'--basetemp={place}/t', *spread, *again, *map(str, tests),
                               *words], plugins=[counter])
     is_told = status in (pytest.ExitCode.OK, pytest.ExitCode.TESTS_FAILED)
-    for name, count in sorted(counter.again.items()):
-        print(f'unsteady: {name} was tried again {count} time{"s" if count > 1 else ""}')
+    for name, faults in sorted(counter.again.items()):
+        times = 'once' if len(faults) == 1 else f'{len(faults)} times'
+        print(f'unsteady: {name} was tried again {times}, after: {"; ".join(faults)}')
     wrong = not is_told and not counter.failed
     sys.stdout.flush()
     return ended(counter.passed, counter.failed + wrong, counter.skipped)

@@ -58,6 +58,8 @@ ASYNC = """const words = [...arguments], done = words.pop();
 def home_with(certificate: Path, home: Path) -> Path:
     """A home whose store has the certificate of two files, NAME.pem and NAME.key."""
     store, packed = home / '.pki/nssdb', home / 'certificate.p12'
+    if store.exists():
+        return home
     store.mkdir(parents=True)
     for words in (
             ['certutil', '-N', '-d', f'sql:{store}', '--empty-password'],
@@ -281,6 +283,13 @@ class Browser:
         self.run("document.querySelectorAll('main [aria-live]').forEach(e => e.replaceChildren())")
         box.send_keys(str(path))
 
+    def choose_quantity(self, count: str, act: str, order: str) -> None:
+        """Chooses so many of an account's holdings, on their page."""
+        self.type('#quantity', count)
+        self.type('#quantity-act', act)
+        self.type('#quantity-order', order)
+        self.click('.quantity button', 'Choose')
+
     def run(self, text: str, *words: Any) -> Any:
         """What a script in the page returns."""
         return self.driver.execute_script(text, *words)
@@ -310,24 +319,39 @@ class Browser:
         found: list[str] = self.run((SCRIPTS / 'over.js').read_text(encoding='utf-8'))
         return found
 
-    def look(self, name: str, *, widths: Sequence[int] = (WIDE, NARROW), printed: bool = False
-             ) -> None:
-        """Fails where something can't be read or runs over a side; keeps pictures of all that."""
-        found = []
+    def look(self, name: str = '', *, widths: Sequence[int] = (WIDE, NARROW), dark: bool = False,
+             printed: bool = False) -> None:
+        """Fails where something can't be read or runs over a side; keeps pictures under a name.
+
+        Contrast is looked at in light and dark; of dark there are pictures where `dark` says so.
+        """
         self.cdp('Input.dispatchMouseEvent', type='mouseMoved', x=0, y=0)    # over nothing
-        for scheme in ('light',) if printed else ('light', 'dark'):
+        found = [] if printed else self.unreadable_by_scheme()
+        for scheme in ('light', 'dark') if dark and name and self.pictures else ('light',):
             self.set_media(scheme, 'print' if printed else 'screen')
-            found += [] if printed else [f'{scheme}: {what}' for what in self.unreadable()]
-            for width in widths if self.pictures or scheme == 'light' else ():
-                self.set_size(width, 900 if width > 600 else 640)
-                found += [f'at {width}: {what}' for what in self.over()]
-                self.picture(f'{name}-{width}' if scheme == 'light' else f'{name}-dark-{width}')
-        for width in BETWEEN if len(widths) > 1 else ():
-            self.set_size(width)
-            found += [f'at {width}: {what}' for what in self.over()]
+            found += self.over_at(widths, f'{name}-dark' if scheme == 'dark' else name)
+        self.set_media('light', 'print' if printed else 'screen')
+        found += self.over_at(BETWEEN if len(widths) > 1 else ())
         self.set_size(WIDE)
         self.set_media()
         assert found == [], f'{name}: {found}'
+
+    def unreadable_by_scheme(self) -> list[str]:
+        found = []
+        for scheme in ('light', 'dark'):
+            self.set_media(scheme)
+            found += [f'{scheme}: {what}' for what in self.unreadable()]
+        return found
+
+    def over_at(self, widths: Sequence[int], name: str = '') -> list[str]:
+        """What runs over a side at these widths, with pictures under a name."""
+        found = []
+        for width in widths:
+            self.set_size(width, 900 if width > 600 else 640)
+            found += [f'at {width}: {what}' for what in self.over()]
+            if name:
+                self.picture(f'{name}-{width}')
+        return found
 
     def picture(self, name: str) -> None:
         """A picture of the whole page, of few colours, where pictures are asked for."""

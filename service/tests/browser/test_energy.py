@@ -22,7 +22,7 @@ def test_a_file_in_kwh_is_asked_about(house: House, visit: Visit) -> None:
     assert 'near a thousandth' in told and 'kWh' in told
     assert all('below a thousandth' in row[6] for row in page.cells_when(lambda of: len(of) == 3))
     page.look('energy')
-    page.click('main .buttons button.main', 'Declare')
+    page.click('main .buttons button.main', 'Declare 3 rows')
     asked = page.text('dialog[open]', 'Is this meant?')
     assert 'kWh' in asked and '1.116 MWh' in asked and '0.0258 %' in asked
     assert page.run('return document.activeElement.textContent') == 'Go back'
@@ -30,7 +30,7 @@ def test_a_file_in_kwh_is_asked_about(house: House, visit: Visit) -> None:
     page.click('dialog[open] button', 'Go back')
     assert house.entry() == before
     page.choose_file('wh.csv', file_of(devices, WH))
-    page.click('main .buttons button.main', 'Declare')
+    page.click('main .buttons button.main', 'Declare 3 rows')
     asked = page.text('dialog[open]', 'Mean load factor')
     assert '1,116 MWh' in asked and '25.8 %' in asked and 'Is this meant?' not in asked
     page.click('dialog[open] button.main')

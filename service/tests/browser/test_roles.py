@@ -53,12 +53,3 @@ def test_meter_data_has_the_page_for_files_alone(house: House, visit: Visit) -> 
 
 def test_who_has_no_holder_code_is_told(house: House, visit: Visit) -> None:
     assert visit(house, 'nemo').text('.result', 'No holder code')
-
-
-def test_without_the_records_their_pages_are_not_there(visit: Visit) -> None:
-    with House(parts=('registry', 'log', 'nginx')) as house:
-        stage.open_holder(house, 'SUN')
-        page = visit(house, 'anna')
-        assert page.texts('nav a') == ['Account', 'Transfer', 'Cancel', 'Export', 'Look up']
-        assert page.text('footer') == 'For programs, described by OpenAPI: the registry'
-        page.leave()
