@@ -24,6 +24,9 @@ const TABLES = {
   cancel: {title: t`Many cancellations by one table`, giver: 'account', own: ['beneficiary', 'use_first', 'use_last']},
 };
 const OTHERS = ['quantity', 'tech', 'source', 'country', 'month', 'device', 'ranges', 'reference'];
+/** The columns' names: a table may have those of either language. */
+const HEADS = {account: t`account`, holder: t`holder`, beneficiary: t`beneficiary`, use_first: t`used from`, use_last: t`used to`, quantity: t`quantity`, tech: t`technology`, source: t`energy source`, country: t`country`, month: t`month`, device: t`device`,
+  ranges: t`ranges`, reference: t`reference`};
 const EXAMPLES = {transfer: {account: 2, holder: 'VOLT', quantity: 100}, cancel: {beneficiary: t`Town Hall`, use_first: '2025-01-01', use_last: '2025-12-31', quantity: 100}};
 const FIELDS = {account: t`Account`, holder: t`Holder`, beneficiary: t`Beneficiary`, use_first: t`Used from`, use_last: t`Used to`, quantity: t`Quantity`, ranges: t`Ranges of numbers`, tech: t`Technology`, source: t`Energy source`,
   country: t`Country`, device: t`Device`, month: t`Month`, reference: t`Reference`, row: t`Row`, header: t`First line`, file: t`File`};
@@ -41,7 +44,7 @@ const FAULTS = {
   rows: () => t`It has more than 1,000 rows, or more than 40 columns: split it.`, field: () => t`A field has more than 4,000 letters.`, encoding: () => t`It is not UTF-8 text. Save it as “CSV UTF-8”, or as XLSX.`, csv: () => t`It is no CSV that can be read.`,
   xlsx: () => t`The spreadsheet can’t be read. Save it anew, or as “CSV UTF-8”.`, xlsx_none: () => t`Spreadsheets are not read here. Save it as “CSV UTF-8”.`, xlsx_large: () => t`The spreadsheet is too large. Copy the rows into a new one.`,
   requests: (of) => t`It comes to ${count(of.there)} ranges of numbers, and ${count(of.wanted)} can be sent at once: split it.`,
-  column: (of) => t`The column ${of.value} is not known.`, column_twice: (of) => t`The column ${of.value} stands there twice.`, column_lacks: (of) => t`The column ${of.value} is needed.`,
+  column: (of) => t`The column ${of.value} is not known.`, column_twice: (of) => t`The column ${of.value} stands there twice.`, column_lacks: (of) => t`The column ${HEADS[of.value] ?? of.value} is needed.`,
 };
 const reasonOf = (of) => FAULTS[of.kind]?.(of) ?? of.kind;
 const rowsOf = (n) => n === 1 ? t`1 row` : t`${count(n)} rows`;
@@ -58,10 +61,10 @@ export function manyBy(command) {
     try { made = await looked(command, Number(box.value), file, shown); } catch (fault) { made = [result(problemOf(fault))]; }
     shown.replaceChildren(...[made].flat(Infinity));
   };
-  const columns = [...own, ...OTHERS];
+  const columns = [...own, ...OTHERS], example = EXAMPLES[command];
   return h('section', {class: 'many'}, h('h2', {}, title), h('div', {class: 'field'}, h('label', {for: 'plan-account'}, t`From your account`), box),
-    drop(t`Drop a table here, or choose one`, t`CSV or XLSX. Its first line names the columns: ${columns.join(', ')}. Each row gets its quantity from what fits, the oldest deadline first. Nothing is sent before you have seen what is chosen.`, `.csv,text/csv,.xlsx,${XLSX}`, take),
-    h('div', {class: 'buttons'}, h('button', {type: 'button', onclick: () => save(`${command}-example.csv`, texts.asCsv(columns, [EXAMPLES[command]]), 'text/csv')}, t`Save an example`)), shown);
+    drop(t`Drop a table here, or choose one`, t`CSV or XLSX. Its first line names the columns: ${columns.map((name) => HEADS[name]).join(', ')}. Each row gets its quantity from what fits, the oldest deadline first. Nothing is sent before you have seen what is chosen.`, `.csv,text/csv,.xlsx,${XLSX}`, take),
+    h('div', {class: 'buttons'}, h('button', {type: 'button', onclick: () => save(`${command}-example.csv`, texts.asCsv(columns.map((name) => HEADS[name]), [Object.fromEntries(columns.map((name) => [HEADS[name], example[name]]))]), 'text/csv')}, t`Save an example`)), shown);
 }
 
 /** What a table comes to: what is at fault, what was sent before, or the plan with the button that sends it. */

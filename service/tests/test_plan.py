@@ -82,13 +82,22 @@ def test_each_row_gets_its_quantity_of_what_fits_and_nothing_twice(
     assert len(given_out) == len(set(given_out))
 
 
+def taken_by_name(wants: list[Want]) -> set[int]:
+    """The numbers that rows name. A range that meets one of before is told, and takes nothing."""
+    taken: set[int] = set()
+    for span in (span for want in wants for span in want.ranges):
+        if taken.isdisjoint(numbers([span])):
+            taken.update(numbers([span]))
+    return taken
+
+
 @settings(max_examples=500)
 @given(tables())
 def test_a_row_is_short_only_where_no_choice_serves_all(
         table: tuple[list[Run], list[Want]]) -> None:
     runs, wants = table
     found = plan.planned(runs, wants)
-    named = {number for want in wants if want.ranges for number in numbers(want.ranges)}
+    named = taken_by_name(wants)
     by_quantity = [want for want in wants if not want.ranges]
     got = sum(plan.size(found.ranges.get(want.row, [])) for want in by_quantity)
     assert got == most(runs, by_quantity, named)
