@@ -103,9 +103,9 @@ class Description:
         if kind not in content and kind.split(';')[0] not in content:
             return f'{status}: {kind} is not described'
         schema = content.get(kind, content.get(kind.split(';')[0]))['schema']
-        is_text = kind.startswith(('application/json', 'text/', 'application/yaml'))
-        text = body.decode('utf-8' if is_text else 'latin-1')
-        value = json.loads(text) if kind.startswith('application/json') else text
+        is_binary = kind.startswith(('application/vnd.', 'application/zip'))
+        value = (json.loads(body) if kind.startswith('application/json')
+                 else body.decode(errors='replace' if is_binary else 'strict'))
         whole = {'components': self.whole['components'], **schema}
         found = next(jsonschema.Draft202012Validator(whole).iter_errors(value), None)
         return found and f'{status}: {"/".join(map(str, found.absolute_path))}: {found.message}'

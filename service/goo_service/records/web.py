@@ -43,6 +43,7 @@ from goo_service.records import lists
 from goo_service.records.attachments import Attachments
 from goo_service.records.body import read_body
 from goo_service.records.code_lists import lists_of
+from goo_service.records.files import BYTE_ORDER
 from goo_service.records.files import csv_of
 from goo_service.records.files import presented
 from goo_service.records.paper import Writer
@@ -52,6 +53,7 @@ from goo_service.records.parties import TooMany
 from goo_service.records.plan_papers import zip_of
 from goo_service.records.plans import Planner
 from goo_service.records.questions import BadQuestion
+from goo_service.records.questions import FILES
 from goo_service.records.questions import Busy
 from goo_service.records.questions import Given
 from goo_service.records.questions import Listed
@@ -63,6 +65,7 @@ from goo_service.records.questions import is_set
 from goo_service.records.questions import standing
 from goo_service.records.schema import Mismatch
 from goo_service.records.schema import read_moment
+from goo_service.records.sheets import xlsx_of
 
 FOLDER = Path('/var/lib/goo-records')
 EXCHANGE = FOLDER / 'exchange.json'
@@ -71,6 +74,7 @@ ATTACHMENTS = Path('/var/lib/goo-attachments')
 PAGES = (Path(__file__).resolve().parents[3] / 'docs/records.yaml',
          Path('/usr/share/goo/api/records.yaml'))
 CALLER = re.compile(r'[A-Z0-9][A-Z0-9_-]{0,15}')
+XLSX = 'application/vnd.openxmlformats-officedocument.spreadsheetml.sheet'
 HEADERS = {'Cache-Control': 'no-store', 'X-Content-Type-Options': 'nosniff'}
 STEPS = 10_000
 """Steps of SQLite after which it is looked whether the time is over."""
@@ -148,6 +152,14 @@ def viewer_of_request() -> Viewer | None:
     return Viewer(callers[0]) if is_known else None
 
 
+def written_file(of: Listed, about: Row) -> tuple[str, str, Iterator[bytes]]:
+    """The type of a file, the end of its name, and its parts."""
+    if about['format'] == 'xlsx':
+        return XLSX, 'xlsx', xlsx_of(of.columns, of.rows, about, FILES['xlsx'])
+    mark = BYTE_ORDER if about['format'] == 'csv-bom' else ''
+    return 'text/csv; charset=utf-8', 'csv', csv_of(of.columns, of.rows, mark)
+
+
 def with_viewer(viewer: Viewer, answer: Callable[[sqlite3.Connection, Viewer, Given], Answer],
                 database: sqlite3.Connection, given: Given) -> Answer:
     return answer(database, viewer, given)
@@ -217,7 +229,8 @@ class Service:
                     answer: Callable[[sqlite3.Connection, Given], Answer]) -> Response:
         """The answer of a route, or the error that it came to. Its book is closed once it is
         sent."""
-        is_file = name == 'papers' or request.args.get('format') == 'csv'
+        kind = request.args.get('format') or ''
+        is_file = name == 'papers' or kind in FILES
         seconds = self.limits.file if is_file else self.limits.question
         try:
             given = parameters_of(name, request.args)
@@ -231,7 +244,7 @@ class Service:
             if known.is_known(tag):
                 response = Response(status=304, headers={**HEADERS, 'ETag': tag})
             else:
-                response = self.response(answer(database, given), database, name, is_file)
+                response = self.response(answer(database, given), database, name, given)
                 known.add_tag(response, tag)
         except FAULTS as error:
             response = self.failure(error, database.is_late(), seconds)
@@ -256,25 +269,26 @@ class Service:
         return reply(503, {'error': 'the records cannot be read'})
 
     def response(self, answer: Answer, database: sqlite3.Connection, name: str,
-                 is_file: bool) -> Response:
+                 given: Given) -> Response:
         """An answer as it is sent: JSON, or for a list a file."""
         if isinstance(answer, Response):
             return answer
         if not isinstance(answer, Listed):
             return reply(200, {'stands': standing(database), **answer})
-        if is_file:
-            return self.file(name, answer)
+        if given.get('format') in FILES:
+            return self.file(answer, {'list': name, **given, **standing(database)})
         found = list(answer.rows)
         return reply(200, {'stands': standing(database), 'items': found, **answer.beside(found)})
 
-    def file(self, name: str, of: Listed) -> Response:
+    def file(self, of: Listed, about: Row) -> Response:
         """A list as a file, written as it is read. Where the time ends within, so does the
         connection, and the client has no whole answer."""
-        parts = self.one_of_few(csv_of(of.columns, of.rows))
+        kind, ending, written = written_file(of, about)
+        parts = self.one_of_few(written)
         first = next(parts)         # what fails at once is told by its status
-        fields = {**HEADERS, 'Content-Disposition': f'attachment; filename="{name}.csv"'}
-        answer = Response(itertools.chain([first], parts), 200, fields,
-                          content_type='text/csv; charset=utf-8')
+        name = f'attachment; filename="{about["list"]}.{ending}"'
+        answer = Response(itertools.chain([first], parts), 200,
+                          {**HEADERS, 'Content-Disposition': name}, content_type=kind)
         answer.call_on_close(parts.close)
         return answer
 
