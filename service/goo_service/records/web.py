@@ -196,7 +196,7 @@ class Service:
             'cancellations': self.cancellation, 'attachments': self.attachment}
         self.others: dict[str, OtherOf] = {
             'status': self.status, 'documents': self.documents, 'party': self.party,
-            'papers': self.papers}
+            'papers': self.table_papers}
         self.planner = Planner()
         self.posted: dict[str, PostedOf] = {'doubts': doubts.doubts, 'plan': self.plan}
 
@@ -389,7 +389,7 @@ class Service:
         files."""
         key = key_of_seals(self.etc)
         if not self.papers.acquire(blocking=False):
-            raise Busy
+            raise Busy('another document is being made: ask again in some seconds')
         try:
             made, = self.one_of_few(pdfs([paper]))
         finally:
@@ -416,7 +416,8 @@ class Service:
 
         return self.planner.plan(database, viewer, given, body, pair)
 
-    def papers(self, database: sqlite3.Connection, viewer: Viewer, given: Given) -> Response:
+    def table_papers(self, database: sqlite3.Connection, viewer: Viewer,
+                     given: Given) -> Response:
         """The documents of a table that was sent, in a ZIP."""
         def parts() -> Iterator[bytes]:
             yield zip_of(database, viewer, given, self.maker)
