@@ -5,7 +5,7 @@ import {t} from './language.js';
 import {Unread, last, pause} from './registry.js';
 import * as words from './words.js';
 
-export const records = {isThere: false, hasDirectory: false};
+export const records = {isThere: false, hasDirectory: false, hasAttachments: false};
 
 /** The address of a list; parameters without a value are left out. */
 export function pathOf(name, parameters = {}) {
@@ -18,7 +18,9 @@ export async function findRecords() {
   try {
     const answer = await fetch(pathOf('status'), {cache: 'no-store', signal: AbortSignal.timeout(20_000)});
     records.isThere = answer.ok;
-    records.hasDirectory = answer.ok && (await answer.json()).directory === true;
+    const said = answer.ok ? await answer.json() : {};
+    records.hasDirectory = said.directory === true;
+    records.hasAttachments = said.attachments === true;
   } catch { records.isThere = false; }
 }
 
@@ -83,11 +85,15 @@ async function problemOf(answer) {
 const PAGE = 1000;
 /** By what holdings are told, and the sum that says how many of them there are. */
 const IN_ALL = {lot: 'lots', run: 'runs'};
+/** The parameter that takes the `next` of a page: sums count rows, acts their ids, and other lists go on behind a row. */
+const GOES_ON = {acts: 'before', holdings: 'offset', deadlines: 'offset', statistics: 'offset', undeclared: 'offset', directory: 'offset', attachments: 'offset'};
+/** What asks for the page that begins there; the first one where `next` is none. */
+export const pageFrom = (name, next) => next === null ? {} : {[GOES_ON[name] ?? 'after']: next};
 
 /** Every item of a list. Where the first page tells how many there are, the others are asked for side by side, else one after another. */
 export async function everyItem(name, parameters) {
-  const pageAt = (offset) => asked(name, {...parameters, limit: PAGE, offset});
-  const pages = [await pageAt(0)], all = pages[0].sum?.[IN_ALL[parameters?.by]];
+  const pageAt = (next) => asked(name, {...parameters, limit: PAGE, ...pageFrom(name, next)});
+  const pages = [await pageAt(null)], all = pages[0].sum?.[IN_ALL[parameters?.by]];
   if (all !== undefined) pages.push(...await Promise.all(Array.from({length: Math.max(0, Math.ceil(all / PAGE) - 1)}, (_, i) => pageAt((i + 1) * PAGE))));
   else while (pages.at(-1).next) pages.push(await pageAt(pages.at(-1).next));
   return pages.flatMap(({items}) => items);
@@ -120,7 +126,7 @@ export const nameAccount = (account, text) => names.set(`account/${account}`, te
 export const siteOf = (device) => once(`device/${device}`, async () => (await asked('devices', {device})).items[0]?.site ?? '');
 
 /** The name of a holder. */
-export const nameOf = (holder) => once(`holder/${holder}`, async () => (await everyItem('holders')).find(({code}) => code === holder)?.name ?? '');
+export const nameOf = (holder) => once(`holder/${holder}`, async () => (await asked('holders', {holder})).items[0]?.name ?? '');
 
 /** Forgets the names, as one may have been opened since. */
 export const forgetNames = () => names.clear();

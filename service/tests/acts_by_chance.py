@@ -13,6 +13,7 @@ from goo_service.common.rules import Registry
 from goo_service.common.rules import Wrong
 from goo_service.common.rules import months_after
 from goo_service.records import web
+from goo_service.records.parameters import page_parameter
 from house import SERVICE
 from mutations import gsrn
 from mutations import lot
@@ -227,7 +228,7 @@ class Service:
             found += answer['items']
             if not answer.get('next'):
                 return found
-            more = {'before' if name == 'acts' else 'offset': answer['next']}
+            more = {page_parameter(name): answer['next']}
 
 
 def follow(archive: Path, into: Path) -> None:

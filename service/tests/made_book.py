@@ -19,6 +19,7 @@ from goo_service.log.archive import Archive
 from goo_service.records import schema
 from goo_service.records import web
 from goo_service.records.book import Book
+from goo_service.records.parameters import page_parameter
 from goo_service.records.registry import WatchedRegistry
 from model import CODES
 from model import Model
@@ -160,7 +161,7 @@ class Made:
             found += answer['items']
             if answer['next'] is None:
                 return found
-            more['before' if name == 'acts' else 'offset'] = answer['next']
+            more[page_parameter(name)] = answer['next']
 
     def acts(self, caller: str = ISSUER, **parameters: object) -> list[dict[str, Any]]:
         """The acts that a caller sees, the newest first."""
@@ -198,18 +199,23 @@ class Logged(Made):
 
 
 def rows_of_book(path: Path) -> list[tuple[Any, ...]]:
-    """The rows of all tables of a book, and which acts have which letters by its index of texts."""
+    """The rows of all tables of a book, and which acts have which letters by its indexes of
+    texts."""
     database = schema.connect(path, read_only=True)
-    database.execute('CREATE VIRTUAL TABLE temp.instances USING fts5vocab (main, word, instance)')
     names = [name for name, in database.execute(TABLES)]
     found = [(name, *row) for name in names for row in database.execute(f'SELECT * FROM {name}')]
-    found += map(tuple, database.execute('SELECT term, doc FROM instances ORDER BY term, doc'))
+    for index in ('word', 'name'):
+        database.execute(f'CREATE VIRTUAL TABLE temp.of_{index} '
+                         f'USING fts5vocab (main, {index}, instance)')
+        found += map(tuple, database.execute(f'SELECT term, doc FROM of_{index} '
+                                             'ORDER BY term, doc'))
     database.close()
     return found
 
 
 TABLES = """SELECT name FROM main.sqlite_master WHERE type = 'table' AND name NOT LIKE 'word%'
-            AND name NOT LIKE 'passed_%' AND name <> 'letters' ORDER BY name"""
+            AND name NOT LIKE 'name%' AND name NOT LIKE 'passed_%' AND name <> 'letters'
+            ORDER BY name"""
 """Those that are the same however a book came to its rows."""
 DEVICE = '500000000000000012'
 PLANT = {'device': DEVICE, 'account': 1, 'country': 'DE', 'site': 'North', 'tech': 'T010000',

@@ -45,7 +45,8 @@ def test_a_parameter_that_no_route_has_is_named(made: Made, route: str) -> None:
     given, client = {**NEEDED.get(route, {})}, made.client()
     ask = client.post if route in web.Service(made.folder, made.folder).posted else client.get
     head = {'GOO-Caller': ISSUER}
-    for name in ('tecnology', 'Account', 'limit ', 'before' if route != 'acts' else 'offset'):
+    other = {'acts': 'offset', 'holdings': 'after'}.get(route, 'before')
+    for name in ('tecnology', 'Account', 'limit ', other):
         answer = ask(path_of(route), query_string=given | {name: '1'}, headers=head)
         assert answer.status_code == 400
         assert repr(name) in answer.get_json()['error']

@@ -5,6 +5,7 @@ OTHERS has a line for it.
 """
 import collections
 import random
+import unicodedata
 from collections.abc import Callable
 from collections.abc import Iterator
 from dataclasses import dataclass
@@ -230,16 +231,21 @@ BESIDES: tuple[dict[str, Any], ...] = (
     {'to': '2026-06-01'}, {'caller': ISSUER}, {'user': 'user-sun'}, {'key': 'k1*'},
     {'before': 900})
 """What is asked for besides a text."""
-LOWER = str.maketrans('ABCDEFGHIJKLMNOPQRSTUVWXYZ', 'abcdefghijklmnopqrstuvwxyz')
 
 
 def shown_of(act: Row) -> str:
     return ' '.join(act[member] or '' for member in SEARCHED)
 
 
+def bare(text: str) -> str:
+    """Letters alone, without their marks and their case."""
+    return ''.join(letter for letter in unicodedata.normalize('NFD', text.casefold())
+                   if unicodedata.category(letter) != 'Mn')
+
+
 def has_text(act: Row, text: str) -> bool:
-    """Whether a text stands in what an act shows, whatever the case of letters from A to Z."""
-    return text.translate(LOWER) in shown_of(act).translate(LOWER)
+    """Whether a text stands in what an act shows, whatever the case and the accents."""
+    return bare(text) in bare(shown_of(act))
 
 
 def text_by_chance(chance: random.Random, acts: list[Row]) -> str:

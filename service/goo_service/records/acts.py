@@ -18,8 +18,10 @@ from goo_service.records.questions import number_of
 from goo_service.records.questions import number_or
 from goo_service.records.questions import read
 from goo_service.records.questions import rows_of
+from goo_service.records.questions import quoted
+from goo_service.records.questions import text_of
+from goo_service.records.questions import threes_in
 from goo_service.records.schema import searched
-from goo_service.records.schema import without_nul
 
 RANGES = 20
 """Ranges that are shown with an act in a list; the act by itself has all."""
@@ -86,7 +88,7 @@ def acts(database: sqlite3.Connection, viewer: Viewer, given: Given) -> Listed:
 def start_of(database: sqlite3.Connection, viewer: Viewer, given: Given,
              span: int) -> tuple[str, Conditions]:
     """The table that leads to the fewest acts, and conditions on account, viewer and text."""
-    account, text = number_of(given, 'account'), given.get('q')
+    account, text = number_of(given, 'account'), text_of(given)
     touched = FEW if account is None else count_of(database, 'touched', 'account', account)
     seen = FEW if viewer.sees_all else count_of(database, 'seen', 'viewer', viewer.caller)
     others = min((count_of(database, 'act', name, given[name])
@@ -158,24 +160,18 @@ def add_words(conditions: Conditions, viewer: Viewer, given: Given) -> None:
         conditions.add('act.key >= ? AND act.key < ?', (key[:-1], f'{key[:-1]}\x7f'))
     elif key:
         conditions.add('act.key = ?', (key,))
-    if text := given.get('q'):
+    if text := text_of(given):
         whose = () if viewer.sees_all else (viewer.caller,)
         own_key = 'CASE WHEN act.caller = ? THEN act.key END' if whose else 'act.key'
-        conditions.add(f'instr(lower({searched(own_key)}), lower(?))', (*whose, text))
+        conditions.add(f'instr(FOLD({searched(own_key)}), ?)', (*whose, text))
 
 
 # -------------------------------------------------------------------- the index of texts
 
 def letters_of(database: sqlite3.Connection, text: str) -> str:
     """What is looked up in the index of texts: three letters at a time, all of which an act has
-    that has the text. Nothing where the index is no help."""
-    text = without_nul(text)
-    if len(text) > 2:
-        places = {*range(0, len(text) - 2, 3), len(text) - 3}
-        return ' '.join(quoted(text[at:at + 3]) for at in sorted(places))
-    if not text.isascii():          # of other letters FTS5 has small ones of its own
-        return ''
-    return threes_of(database, text.lower())
+    that has the folded text. Nothing where the index is no help."""
+    return threes_in(text) if len(text) > 2 else threes_of(database, text)
 
 
 def threes_of(database: sqlite3.Connection, begin: str) -> str:
@@ -187,11 +183,6 @@ def threes_of(database: sqlite3.Connection, begin: str) -> str:
     if len(threes) == MOST_THREES:
         return ''
     return ' OR '.join(map(quoted, threes)) or NO_THREE
-
-
-def quoted(three: str) -> str:
-    """Three letters in the language of FTS5, whatever they are."""
-    return '"{}"'.format(three.replace('"', '""'))
 
 
 # -------------------------------------------------------------------- one act

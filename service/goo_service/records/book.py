@@ -37,6 +37,7 @@ from goo_service.records.commands import kept_of
 from goo_service.records.commands import parties_of
 from goo_service.records.registry import Change
 from goo_service.records.schema import Mismatch
+from goo_service.records.schema import folded
 from goo_service.records.writer import Writer
 
 KINDS = {
@@ -289,13 +290,14 @@ class Book(Writer):
             known = self.lots[lot.key] = len(self.lots) + 1
             self.begins[known] = first
             trade_until = months_after(lot.last_day, 12)
-            self.insert('lot', known, *lot, trade_until, lot.expires_on, first, last)
+            self.insert('lot', known, *lot, trade_until, lot.expires_on, first, last,
+                        folded(lot.site))
         return known
 
     # ---------------------------------------------------------------- what commands leave besides
 
     def write_holder(self, act: int, of: Command, _: Reply) -> None:
-        self.insert('holder', of['holder'], of['name'], act)
+        self.insert('holder', of['holder'], of['name'], act, folded(of['name']))
 
     def write_account(self, act: int, of: Command, answer: Reply) -> None:
         self.insert('account', answer[1], of['holder'], 0, act)
@@ -308,7 +310,7 @@ class Book(Writer):
         device = self.registry.devices[of['device']]
         self.insert('device', of['device'], device['account'],
                     *(device[member] for member in PLANT), device['carrier'],
-                    *self.sums_of(of['device']), act)
+                    *self.sums_of(of['device']), act, folded(device['site']))
 
     def sums_of(self, gsrn: str) -> list[Any]:
         """Last declared day, energy and certificates of a device."""
@@ -343,8 +345,9 @@ class Book(Writer):
     def write_withdrawal(self, act: int, _: Command, answer: Reply) -> None:
         self.write_withdrawn(answer[1], act)
 
-    def write_cancellation(self, act: int, _: Command, answer: Reply) -> None:
-        self.insert('cancellation', answer[1], *self.registry.cancellations.pop(answer[1]), act)
+    def write_cancellation(self, act: int, of: Command, answer: Reply) -> None:
+        self.insert('cancellation', answer[1], *self.registry.cancellations.pop(answer[1]), act,
+                    folded(of['beneficiary']))
 
     def write_peer(self, act: int, of: Command, _: Reply) -> None:
         self.insert('peer', of['peer'], act)

@@ -19,6 +19,7 @@ from goo_service.records.questions import NotFound
 from goo_service.records.questions import Row
 from goo_service.records.questions import Viewer
 from goo_service.records.questions import rows_of
+from goo_service.records.schema import CANCELLATION
 
 CODE_LENGTH = 16
 """Letters and digits of a check code: 80 bits."""
@@ -35,8 +36,8 @@ class Maker:
 
 def document(database: sqlite3.Connection, number: int) -> Row:
     """What a cancellation's document says: the registry's text, and the facts of each lot."""
-    found = rows_of(database, '''
-        SELECT cancellation.*, account.holder, holder.name, (SELECT code FROM meta) AS registry
+    found = rows_of(database, f'''
+        SELECT {CANCELLATION}, account.holder, holder.name, (SELECT code FROM meta) AS registry
         FROM cancellation JOIN account ON account.number = cancellation.account
         JOIN holder ON holder.code = account.holder WHERE cancellation.number = ?''', (number,))
     if not found:

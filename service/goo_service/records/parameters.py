@@ -8,11 +8,13 @@ from typing import Protocol
 
 from goo_service.records.acts import ACT_FILTERS
 from goo_service.records.certificates import LOT_FILTERS
-from goo_service.records.lists import FILTERS
 from goo_service.records.lists import LISTS
 from goo_service.records.questions import BadQuestion
+from goo_service.records.questions import FILES
 
 PAGE = ('limit', 'offset', 'format')
+BEHIND = ('sort', 'limit', 'after', 'format')
+"""Of lists that go on behind a row, and not at a count of rows."""
 HELD = ('account', 'q', 'tradable', *LOT_FILTERS)
 SUMMED = ('tech', 'source', 'carrier', 'country', 'device')
 PARAMETERS: dict[str, tuple[str, ...]] = {
@@ -21,14 +23,15 @@ PARAMETERS: dict[str, tuple[str, ...]] = {
     'holdings': ('by', 'place', 'sort', *HELD, *PAGE),
     'deadlines': ('days', *HELD, *PAGE),
     'choice': ('count', 'order', 'act', *HELD, 'format'),
-    'holders': PAGE,
-    'withdrawals': PAGE,
+    'holders': ('holder', 'q', *BEHIND),
+    'withdrawals': BEHIND,
     'undeclared': ('month', 'account', *PAGE),
     'attachments': PAGE,
     'directory': PAGE,
     'party': ('account', 'holder', 'peer'),
     'statistics': ('by', 'from', 'to', *SUMMED, *PAGE),
-    **{name: ('account', *FILTERS.get(name, {}), 'sort', *PAGE) for name in LISTS},
+    **{name: ('account', *of.filters, *(('q',) if of.found else ()), *BEHIND)
+       for name, of in LISTS.items()},
     'acts/NUMBER': (),
     'certificates/NUMBER': (),
     'cancellations/NUMBER': (),
@@ -39,7 +42,12 @@ PARAMETERS: dict[str, tuple[str, ...]] = {
     'openapi.yaml': (),
     'verify': ('number', 'code', 'lang'),
 }
-FORMATS = ('csv', 'json')
+FORMATS = (*FILES, 'json')
+
+
+def page_parameter(route: str) -> str:
+    """The parameter that takes the `next` of a page of this list."""
+    return next(name for name in ('before', 'after', 'offset') if name in PARAMETERS[route])
 
 
 class Query(Protocol):

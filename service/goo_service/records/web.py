@@ -43,6 +43,7 @@ from goo_service.records import lists
 from goo_service.records.attachments import Attachments
 from goo_service.records.body import read_body
 from goo_service.records.code_lists import lists_of
+from goo_service.records.files import BYTE_ORDER
 from goo_service.records.files import csv_of
 from goo_service.records.files import presented
 from goo_service.records.paper import Writer
@@ -50,6 +51,7 @@ from goo_service.records.parameters import parameters_of
 from goo_service.records.parties import Parties
 from goo_service.records.parties import TooMany
 from goo_service.records.questions import BadQuestion
+from goo_service.records.questions import FILES
 from goo_service.records.questions import Given
 from goo_service.records.questions import Listed
 from goo_service.records.questions import NotFound
@@ -60,6 +62,7 @@ from goo_service.records.questions import is_set
 from goo_service.records.questions import standing
 from goo_service.records.schema import Mismatch
 from goo_service.records.schema import read_moment
+from goo_service.records.sheets import xlsx_of
 
 FOLDER = Path('/var/lib/goo-records')
 EXCHANGE = FOLDER / 'exchange.json'
@@ -68,6 +71,7 @@ ATTACHMENTS = Path('/var/lib/goo-attachments')
 PAGES = (Path(__file__).resolve().parents[3] / 'docs/records.yaml',
          Path('/usr/share/goo/api/records.yaml'))
 CALLER = re.compile(r'[A-Z0-9][A-Z0-9_-]{0,15}')
+XLSX = 'application/vnd.openxmlformats-officedocument.spreadsheetml.sheet'
 HEADERS = {'Cache-Control': 'no-store', 'X-Content-Type-Options': 'nosniff'}
 STEPS = 10_000
 """Steps of SQLite after which it is looked whether the time is over."""
@@ -149,6 +153,14 @@ def viewer_of_request() -> Viewer | None:
     return Viewer(callers[0]) if is_known else None
 
 
+def written_file(of: Listed, about: Row) -> tuple[str, str, Iterator[bytes]]:
+    """The type of a file, the end of its name, and its parts."""
+    if about['format'] == 'xlsx':
+        return XLSX, 'xlsx', xlsx_of(of.columns, of.rows, about, FILES['xlsx'])
+    mark = BYTE_ORDER if about['format'] == 'csv-bom' else ''
+    return 'text/csv; charset=utf-8', 'csv', csv_of(of.columns, of.rows, mark)
+
+
 def with_viewer(viewer: Viewer, answer: Callable[[sqlite3.Connection, Viewer, Given], Answer],
                 database: sqlite3.Connection, given: Given) -> Answer:
     return answer(database, viewer, given)
@@ -216,8 +228,8 @@ class Service:
                     answer: Callable[[sqlite3.Connection, Given], Answer]) -> Response:
         """The answer of a route, or the error that it came to. Its book is closed once it is
         sent."""
-        is_file = request.args.get('format') == 'csv'
-        seconds = self.limits.file if is_file else self.limits.question
+        kind = request.args.get('format') or ''
+        seconds = self.limits.file if kind in FILES else self.limits.question
         try:
             given = parameters_of(name, request.args)
             database = self.book(time.monotonic() + seconds)
@@ -230,7 +242,7 @@ class Service:
             if known.is_known(tag):
                 response = Response(status=304, headers={**HEADERS, 'ETag': tag})
             else:
-                response = self.response(answer(database, given), database, name, is_file)
+                response = self.response(answer(database, given), database, name, given)
                 known.add_tag(response, tag)
         except FAULTS as error:
             response = self.failure(error, database.is_late(), seconds)
@@ -256,25 +268,26 @@ class Service:
         return reply(503, {'error': 'the records cannot be read'})
 
     def response(self, answer: Answer, database: sqlite3.Connection, name: str,
-                 is_file: bool) -> Response:
+                 given: Given) -> Response:
         """An answer as it is sent: JSON, or for a list a file."""
         if isinstance(answer, Response):
             return answer
         if not isinstance(answer, Listed):
             return reply(200, {'stands': standing(database), **answer})
-        if is_file:
-            return self.file(name, answer)
+        if given.get('format') in FILES:
+            return self.file(answer, {'list': name, **given, **standing(database)})
         found = list(answer.rows)
         return reply(200, {'stands': standing(database), 'items': found, **answer.beside(found)})
 
-    def file(self, name: str, of: Listed) -> Response:
+    def file(self, of: Listed, about: Row) -> Response:
         """A list as a file, written as it is read. Where the time ends within, so does the
         connection, and the client has no whole answer."""
-        parts = self.one_of_few(csv_of(of.columns, of.rows))
+        kind, ending, written = written_file(of, about)
+        parts = self.one_of_few(written)
         first = next(parts)         # what fails at once is told by its status
-        fields = {**HEADERS, 'Content-Disposition': f'attachment; filename="{name}.csv"'}
-        answer = Response(itertools.chain([first], parts), 200, fields,
-                          content_type='text/csv; charset=utf-8')
+        name = f'attachment; filename="{about["list"]}.{ending}"'
+        answer = Response(itertools.chain([first], parts), 200,
+                          {**HEADERS, 'Content-Disposition': name}, content_type=kind)
         answer.call_on_close(parts.close)
         return answer
 
@@ -357,7 +370,8 @@ class Service:
 
     def status(self, _: sqlite3.Connection, viewer: Viewer, __: Given) -> Row:
         """Who looks, and whether he sees the directory."""
-        return {'caller': viewer.caller, 'directory': self.parties.is_shown or viewer.sees_all}
+        return {'caller': viewer.caller, 'directory': self.parties.is_shown or viewer.sees_all,
+                'attachments': self.kept.is_there()}
 
     def party(self, database: sqlite3.Connection, viewer: Viewer, given: Given) -> Row:
         user = request.headers.get('GOO-User') or viewer.caller
