@@ -21,7 +21,7 @@ def transfer(key: str, first: int, count: int = 1, giver: int = 1,
             'first': f'{first:014}', 'last': f'{first + count - 1:014}'}
 
 
-def body_of(*requests: dict[str, object]) -> str:
+def body_of(*requests: dict[str, Any]) -> str:
     return ''.join(f'{json.dumps(of)}\n' for of in requests)
 
 
@@ -165,8 +165,9 @@ def holds(house: House) -> None:
 def test_log_copies_recount_and_book_hold_across_bundles(own_house: House) -> None:
     """Of every way in which a bundle ends; also where the book is made anew from the archive."""
     land = own_house.make_country(60)
-    cancel = {'command': 'cancel', 'account': land.sun, 'beneficiary': 'Rathaus',
-              'use_first': '2025-01-01', 'use_last': '2025-12-31'}
+    cancel: dict[str, Any] = {
+        'command': 'cancel', 'account': land.sun, 'beneficiary': 'Rathaus',
+        'use_first': '2025-01-01', 'use_last': '2025-12-31'}
     holds(own_house)
     own_house.ask('anna', 'POST', ROUTE, body_of(
         transfer('a', land.first, 3), transfer('b', land.first), {'key': 'c'},
