@@ -54,8 +54,8 @@ const cells = (act) => Object.assign([whenOf(act), [KINDS[act.kind], many(act)],
   [outcome(act), ended(act)], paperOf(act), [act.device ?? '', act.device && act.note ? ', ' : '', act.note ? written(act.note) : '', act.user ? t` by ${act.user}` : '']], {kind: act.outcome === 'accepted' ? 'accepted' : 'refused'});
 
 const choices = (words) => [['', t`all`], ...Object.entries(words)];
-const FILTERS = [{name: 'account', label: t`Account`}, {name: 'kind', label: t`Act`, options: choices(KINDS)}, {name: 'outcome', label: t`Outcome`, options: choices(OUTCOMES)},
-  {name: 'from', label: t`From day`, type: 'date'}, {name: 'to', label: t`To day`, type: 'date'}, {name: 'user', label: t`User`}, {name: 'q', label: t`Text in note, key, device or holder`}];
+const FILTERS = [{name: 'account', label: t`Account`}, {name: 'kind', label: t`Act`, options: choices(KINDS), first: true}, {name: 'outcome', label: t`Outcome`, options: choices(OUTCOMES), first: true},
+  {name: 'from', label: t`From day`, type: 'date'}, {name: 'to', label: t`To day`, type: 'date'}, {name: 'user', label: t`User`, first: true}, {name: 'q', label: t`Text in note, key, device or holder`}];
 
 /** Acts with all that may be filtered; `fixed` is asked always. */
 export const acts = (given, fixed = {}) => listing({name: 'acts', given, fixed, filters: FILTERS, columns: () => COLUMNS, row: cells, empty: t`No act fits.`});
