@@ -11,6 +11,7 @@ import time
 from collections.abc import Iterator
 from contextlib import closing
 from pathlib import Path
+from typing import cast
 
 import loopback
 import old_registry
@@ -21,6 +22,8 @@ from cryptography.hazmat.primitives.serialization import NoEncryption
 from cryptography.hazmat.primitives.serialization import PrivateFormat
 from hypothesis import given
 from hypothesis import strategies
+from goo_service.common.client import Answer
+from goo_service.common.client import Client
 from goo_service.exchange.signature import Key
 from goo_service.log.closed import closed_in
 from goo_service.migrate import check
@@ -39,6 +42,7 @@ from goo_service.migrate.sums import compare
 from goo_service.records.attachments import Attachments
 from goo_service.records.questions import NotFound
 from goo_service.records.questions import Viewer
+from client import comes
 from house import House
 from house import SERVICE
 from mutations import gsrn
@@ -371,6 +375,43 @@ def empty_house() -> Iterator[House]:
         yield standing
 
 
+class Answering:
+    """A log that answers as planned; `left` bundles, and then the run ends."""
+
+    def __init__(self, folder: Path, left: int) -> None:
+        self.replies = {step.body['key']: step.reply for step in sending.steps_in(folder)}
+        self.keys: list[str] = []
+        self.left = left
+
+    def post(self, _: str, body: bytes) -> Answer:
+        if not self.left:
+            raise KeyboardInterrupt
+        self.left -= 1
+        keys = [json.loads(line)['key'] for line in body.splitlines()]
+        self.keys += keys
+        lines = [json.dumps({'outcome': 'accepted', 'reply': self.replies[key]}) for key in keys]
+        return Answer(200, {}, '\n'.join(lines).encode())
+
+
+def test_a_run_goes_on_with_the_first_request_that_has_no_answer(tmp_path: Path) -> None:
+    old_registry.write(tmp_path, 3, old_registry.Size(holders=5, devices=10))
+    read, _ = checked(tmp_path)
+    plan.write(tmp_path, read)
+    log = Answering(tmp_path, 3)
+    with pytest.raises(KeyboardInterrupt):
+        sending.run(tmp_path, cast(Client, log), print)
+    assert 0 < answered_of(tmp_path) == len(log.keys) < len(log.replies)
+    log.left = len(log.replies)
+    sending.run(tmp_path, cast(Client, log), print)
+    assert log.keys == [step.body['key'] for step in sending.steps_in(tmp_path)]
+
+
+def answered_of(folder: Path) -> int:
+    """How many requests of a plan were answered, by what a run has noted."""
+    noted = folder / sending.NAME
+    return int(json.loads(noted.read_text())['requests']) if noted.exists() else 0
+
+
 def test_a_run_that_is_killed_goes_on_and_ends_the_same(empty_house: House,
                                                         tmp_path: Path) -> None:
     old_registry.write(tmp_path, 3, old_registry.Size(holders=20, devices=40))
@@ -379,8 +420,10 @@ def test_a_run_that_is_killed_goes_on_and_ends_the_same(empty_house: House,
     words = [*command('goo-migrate', SERVICE), 'run', str(tmp_path), '--log',
              str(empty_house.folder / 'door.sock')]
     for _ in range(10):
+        before = answered_of(tmp_path)
         started = subprocess.Popen(words, stdout=subprocess.DEVNULL, stderr=subprocess.PIPE)
-        time.sleep(0.3 + chance.random())
+        comes(lambda: started.poll() is not None or answered_of(tmp_path) > before, 60)
+        time.sleep(chance.random() / 10)
         started.send_signal(signal.SIGKILL)
         _, said = started.communicate()
         assert started.returncode in (0, -signal.SIGKILL), said

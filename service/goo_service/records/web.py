@@ -370,7 +370,8 @@ class Service:
 
     def status(self, _: sqlite3.Connection, viewer: Viewer, __: Given) -> Row:
         """Who looks, and whether he sees the directory."""
-        return {'caller': viewer.caller, 'directory': self.parties.is_shown or viewer.sees_all}
+        return {'caller': viewer.caller, 'directory': self.parties.is_shown or viewer.sees_all,
+                'attachments': self.kept.is_there()}
 
     def party(self, database: sqlite3.Connection, viewer: Viewer, given: Given) -> Row:
         user = request.headers.get('GOO-User') or viewer.caller

@@ -1,4 +1,4 @@
-"""A selection of many ranges: transferred, cancelled and exported in as many requests."""
+"""A selection of many ranges: transferred, cancelled and exported as one bundle."""
 import re
 
 from browser import stage
@@ -53,8 +53,8 @@ def test_a_quantity_is_transferred(house: House, visit: Visit) -> None:
     page.look('selection-done')
 
 
-def test_a_selection_goes_on_after_a_lost_answer(house: House, visit: Visit) -> None:
-    """The page is loaded anew, goes on, and nothing is done twice."""
+def test_a_selection_whose_answer_is_lost_is_done_once(house: House, visit: Visit) -> None:
+    """The page is loaded anew, the bundle is sent again, and nothing is done twice."""
     world, page = made(house), visit(house, 'anna')
     own, others = counts(house, world)
     page.go(f'holdings/{world.account}/tech=T010000&tradable=1', '.summed')
@@ -65,18 +65,18 @@ def test_a_selection_goes_on_after_a_lost_answer(house: House, visit: Visit) -> 
     page.fill('bundle', taker=str(world.other), taker_holder='VOLT')
     page.click('form.bundle button.main', 'Transfer')
     page.forget('main .result')
-    with Relay(house, ['passed', 'passed', 'unheard']) as relay:
+    with Relay(house, ['unheard']) as relay:
         page.click('dialog[open] button.main')
-        told = page.text('main .result.kept', 'requests are answered')
-        assert told.startswith('2 of ') and 'No answer' in told
+        assert 'kept' in page.text('main .result.kept', 'No answer')
         page.look('selection-lost')
         page.load('', 'table')
-        told = page.text('#unanswered li')
-        assert '2 of ' in told and f'To account {world.other}' in told
+        told = page.text('#unanswered li', f'To account {world.other}')
+        count = re.search(r'(\d+) requests, sent as one', told)
+        assert count and int(count[1]) > 3
         page.look()
-        page.click('#unanswered button', 'Go on')
-        told = page.text('#unanswered .result', 'All ')
-        assert f'All {relay.posts - 1} requests' in told and relay.posts > 3
+        page.click('#unanswered button', 'Send again')
+        page.see('#unanswered .result', f'All {count[1]} requests are accepted')
+        assert relay.posts == 2
     assert counts(house, world) == (own - chosen, others + chosen)
     kept = "return Object.keys(localStorage).filter(k => k.includes('bundle'))"
     assert page.run(kept) == []
