@@ -11,13 +11,15 @@ from house import House
 LISTS = ('devices', 'declarations', 'corrections', 'cancellations', 'withdrawals', 'notices',
          'entered', 'statistics')
 OF_HOLDER = {
-    'start': 'Start', 'account': 'Ihre Konten', 'holdings/{account}': 'Bestand', 'holdings/{account}/by=tech': 'Bestand',
+    'start': 'Start', 'account': 'Ihre Konten',
+    'holdings/{account}': 'Bestand', 'holdings/{account}/by=tech': 'Bestand',
     'deadlines': 'Fristen', 'history': 'Verlauf', 'act/{act}': 'Vorgang',
     'document/{number}': 'Entwertungsnachweis 07-', 'account/{account}': 'Konto',
     'look-up/{first}': 'Nachschlagen', 'cancel': 'Entwerten', 'export': 'Exportieren',
     'transfer': 'Übertragen', **{f'lists/{name}': '' for name in LISTS}}
 OF_ISSUER = {
-    'start': 'Start', 'audit': 'Prüfung', 'register': 'Eintragen', 'account': 'Konten', 'account/{account}': 'Konto',
+    'start': 'Start',
+    'audit': 'Prüfung', 'register': 'Eintragen', 'account': 'Konten', 'account/{account}': 'Konto',
     'correct': 'Berichtigen', 'withdraw': 'Zurückziehen', 'exchange': 'Austausch', 'date': 'Datum',
     'lists/holders': 'Inhaber', 'history//outcome=refused': 'Verlauf',
     'lists/entered': 'Von der ausstellenden Stelle eingegeben', 'declare': 'Erzeugung melden'}
