@@ -59,6 +59,7 @@ fn are_ours(conn: &Connection<MemStore>, layout: Option<Layout>) -> bool {
 fn is_adopted(rt: &impl Abort, alloc: Global, texts: &[&str], what: &str) {
     let mut conn = made(rt, alloc, texts);
     let mut told = Told { times: 0 };
+    assert!(rt; conn.is_autocommit(), "a transaction goes on");
     match adopt(alloc, &mut conn, &mut told) {
         Ok(done) => holds(rt, are_ours(&conn, done), "they are not ours then"),
         Err(fault) => assert!(rt; false, "{what}: {fault}"),
@@ -72,6 +73,7 @@ fn is_adopted(rt: &impl Abort, alloc: Global, texts: &[&str], what: &str) {
 fn is_refused(rt: &impl Abort, alloc: Global, texts: &[&str], word: OpenFault, what: &str) {
     let mut conn = made(rt, alloc, texts);
     let mut told = Told { times: 0 };
+    assert!(rt; conn.is_autocommit(), "a transaction goes on");
     match adopt(alloc, &mut conn, &mut told) {
         Ok(_) => holds(rt, false, what),
         Err(fault) => assert!(rt; fault == word, "{what}: {fault}"),
