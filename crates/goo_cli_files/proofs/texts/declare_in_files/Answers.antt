@@ -1,4 +1,4 @@
-use Rattle.std.proofs.Common.{◌≡◌, subst, sym}
+use Rattle.std.proofs.Common.{◌≡◌, refl, subst, sym}
 use Rattle.std.proofs.KnownBytes.{Keeps-refl}
 use Rattle.sqlite.specs.Files.{file_state}
 use Rattle.sqlite_trees.specs.View.{doubt}
@@ -42,5 +42,8 @@ returns-in-Ok-clause-refused g c = not_refused c.close_registry.result _ c.close
 pub returns-in-Err-clause-refused : goal.returns-in-Err-clause-refused
 returns-in-Err-clause-refused g c = record { unopened = record { word = c.in-Err.ensures.word; silent = Keeps-refl _ }; unread = Keeps-refl _ }
 
-pub returns-in-Ok-clause-unharmed : goal.returns-in-Ok-clause-unharmed
-returns-in-Ok-clause-unharmed g c clean = not_refused c.close_registry.result _ c.close_registry.ensures.opened
+pub returns-in-Ok-clause-turned_away : goal.returns-in-Ok-clause-turned_away
+returns-in-Ok-clause-turned_away g c clean = not_refused c.close_registry.result _ c.close_registry.ensures.opened
+
+pub returns-in-Err-clause-turned_away : goal.returns-in-Err-clause-turned_away
+returns-in-Err-clause-turned_away g c clean = record { failure = c.in-Err.failure; tells = refl; why = c.in-Err.ensures.why clean; unharmed = c.in-Err.ensures.unharmed clean }
