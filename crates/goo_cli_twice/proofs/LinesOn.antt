@@ -3,9 +3,10 @@ use Rattle.std.proofs.Common.{◌≡◌, ◌∙◌, ℕ, List, [], ◌∷◌, �
 use Rattle.std.specs.Prelude.{◌⊎◌}
 use Rattle.goo_types.specs.declared.request.Request.{Request}
 use Rattle.goo_spec.specs.Run.{final}
+use Rattle.goo_spec.specs.Step.{next}
 use Rattle.goo_spec.specs.State.{State}
 use Rattle.goo_spec_again.specs.Whole.{OthersStay}
-use Rattle.goo_spec_again.proofs.Whole.{final_on, lists_again}
+use Rattle.goo_spec_again.proofs.Whole.{lists_again}
 use Rattle.goo_desk_lines.specs.Answers.{answer_line, answer_to, state_after}
 use Rattle.goo_desk_lines.specs.Fold.{Answered, answering, nothing_answered, with_line, with_lines, with_next}
 use Rattle.goo_desk_lines.specs.Requests.{requests_of}
@@ -57,6 +58,10 @@ next_on xs done [] = refl
 next_on xs done (line ∷ left) = sym (append_assoc xs done (line ∷ []))
 
 -- ---- lines that are sent again
+
+final_on : (s : State) (part rest : List Request) → final s (part ++ rest) ≡ final (final s part) rest
+final_on s [] rest = refl
+final_on s (q ∷ part) rest = final_on (next s q) part rest
 
 pub sent_again : (s : State) (part rest : Lines) → OthersStay s (requests_of part) (final s (requests_of part)) → AreSentAgain s part rest
 sent_again s part rest others =
