@@ -28,10 +28,10 @@ Holds image s t = (db : Trees) × HoldsDatabase image db × OpensAsEither db s t
 opens_only : (db : Trees) (s t : State) → OpensAs db (Some s) → OpensAsEither db s t
 opens_only db s t is o opens = inl (opens_so db o is.0 is.1.0 is.1.1 opens ∙ ap Some (sym is.1.2))
 
-module _ {D : Type 0} {g : Ghosts D} where
-  of_whole : (image : Image) (db : Trees) (s t : State) → OpensAs db (Some s) → ∥ HoldsDatabase image db ∥₁ → ∥ Holds image s t ∥₁
-  of_whole image db s t is held = ∥∥₁_map held (λ holds. let found : Holds image s t = (db, holds, opens_only db s t is) in found)
+of_whole : (image : Image) (db : Trees) (s t : State) → OpensAs db (Some s) → ∥ HoldsDatabase image db ∥₁ → ∥ Holds image s t ∥₁
+of_whole image db s t is held = ∥∥₁_map held (λ holds. let found : Holds image s t = (db, holds, opens_only db s t is) in found)
 
+module _ {D : Type 0} {g : Ghosts D} where
   pub found_left : (one : Left D g) (image : Image) (s t : State) → IsClean one → MayOpen one s t → AreLeft one image → ∥ Holds image s t ∥₁
   found_left (left.Whole files) image s t clean may (inl out) = let it = may clean in of_whole image it.db s t it.opens (it.left image out).both
   found_left (left.Whole files) image s t clean may (inr (before, out, is)) =
@@ -53,11 +53,11 @@ module _ {D : Type 0} {g : Ghosts D} where
 
 module _ {D E : Type 0} (g : Ghosts D) (h : Ghosts E) where
   pub two_runs : TwoRuns g h
-  two_runs old one two image told_one told_two had_one has_one had_two has_two before_one after_one before_two after_two clean first left begins runs =
-      opened_so two image _ _ _ _ (found_left one image _ _ clean first.found left) begins runs
+  two_runs old one two image told_one told_two had_one has_one had_two has_two before_one after_one before_two after_two clean first are begins runs =
+      opened_so two image _ _ _ _ (found_left one image _ _ clean first.found are) begins runs
       (λ middle is second. lines.goes_on old first.done first.left told_two had_two has_two (IsInFile two) (MayOpen two) before_two after_two middle is second)
 
   pub two_tables : TwoTables g h
-  two_tables old one two image told_one told_two had_one has_one had_two has_two before_one after_one before_two after_two clean first left begins runs =
-      opened_so two image _ _ _ _ (found_left one image _ _ clean first.found left) begins runs
+  two_tables old one two image told_one told_two had_one has_one had_two has_two before_one after_one before_two after_two clean first are begins runs =
+      opened_so two image _ _ _ _ (found_left one image _ _ clean first.found are) begins runs
       (λ middle is second. tables.goes_on old first.rows first.upto told_two had_two has_two (IsInFile two) (MayOpen two) before_two after_two middle is second)
