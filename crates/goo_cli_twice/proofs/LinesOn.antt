@@ -7,7 +7,6 @@ use Rattle.goo_spec.specs.Step.{next}
 use Rattle.goo_spec.specs.State.{State}
 use Rattle.goo_spec_again.specs.Whole.{OthersStay}
 use Rattle.goo_spec_again.proofs.Whole.{lists_again}
-use Rattle.goo_desk_lines.specs.Answers.{answer_line, answer_to, state_after}
 use Rattle.goo_desk_lines.specs.Fold.{Answered, answering, nothing_answered, with_line, with_lines, with_next}
 use Rattle.goo_desk_lines.specs.Requests.{requests_of}
 use Rattle.goo_desk_lines.proofs.PromiseFacts.{lines_promised}

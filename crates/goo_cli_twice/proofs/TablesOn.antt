@@ -4,7 +4,6 @@ use Rattle.std.specs.Prelude.{◌⊎◌}
 use Rattle.goo_spec.specs.Checks.{issuer}
 use Rattle.goo_spec.specs.State.{State}
 use Rattle.goo_files_import.specs.Import.{Imported, importing, nothing_imported, row_result, with_row, with_rows}
-use Rattle.goo_files_import.specs.Table.{AreFirstRows, AreRows}
 use Rattle.goo_files_import.proofs.PromiseFacts.{rows_promised}
 use Rattle.goo_files_import.proofs.SentAgain.{table_sent_again}
 use Rattle.goo_cli_ending.specs.declared.ending.Ending.{Ending}

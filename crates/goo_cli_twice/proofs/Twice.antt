@@ -1,19 +1,17 @@
 -- What the second run begins with, by what the first one left.
-use Rattle.std.proofs.Common.{◌≡◌, ◌∙◌, ◌⊎◌, ℕ, [], List, Option, Some, refl, sym, ap, subst, inl, inr}
-use Rattle.std.proofs.Math.Logic.{∥∥₁_elim, ∥∥₁_map}
+use Rattle.std.proofs.Common.{◌≡◌, ◌∙◌, ◌⊎◌, Some, sym, ap, subst, inl, inr}
+use Rattle.std.proofs.Math.Logic.{∥∥₁_map}
 use Rattle.sqlite_disk.specs.declared.Disk.{Ghosts}
 use Rattle.sqlite.specs.Files.{HoldsDatabase}
 use Rattle.sqlite.specs.Tree.{Trees}
 use Rattle.sqlite.specs.declared.file.Leftover.TheVariants as rest
-use Rattle.sqlite_store.specs.FileStore.{recovers}
 use Rattle.sqlite_wal.specs.Recovery.{Image}
 use Rattle.goo_spec.specs.State.{State}
 use Rattle.goo_store_judge.specs.Holding.{opens_so}
 use Rattle.goo_store_judge.specs.Moments.{OpensAs, OpensAsEither}
 use Rattle.goo_store_opening.specs.Versions.{state_held}
-use Rattle.goo_cli_registry.specs.Closings.{HoldRegistry, IsClean}
+use Rattle.goo_cli_registry.specs.Closings.{IsClean}
 use Rattle.goo_cli_registry.specs.Durable.{IfOpened, IsInFile, MayOpen}
-use Rattle.goo_cli_registry.specs.Finds.{Begins}
 use Rattle.goo_cli_registry.specs.declared.closing.Left.{Left}
 use Rattle.goo_cli_registry.specs.declared.closing.Left.TheVariants as left
 use Rattle.goo_cli_twice.specs.Twice.{AreLeft, BeginsOver, TwoRuns, TwoTables}
