@@ -5,14 +5,13 @@ ghost use Rattle.std.specs.Io.Buffered.{writer_buffer, writer_contents};
 ghost use Rattle.std.specs.Io.KnownBytes.{Keeps};
 ghost use Rattle.sqlite.specs.Files.{image_of, HoldsDatabase};
 ghost use Rattle.sqlite.specs.Tree.{Trees};
-ghost use Rattle.goo_spec.specs.Sound.{IsSound};
 ghost use Rattle.goo_store_opening.specs.Versions.{state_held};
 ghost use Rattle.goo_files.specs.Texts.{IsStatement, IsAuditText};
 ghost use Rattle.goo_files.specs.Writes.{Began, Wrote};
 ghost use Rattle.goo_cli_ending.specs.Endings.{status_of};
 ghost use Rattle.goo_cli_registry.specs.Closings.{HasSpareLog, IfRefused, IsClean};
 ghost use Rattle.goo_cli_registry.specs.Durable.{IfOpened, IsInFile, IsUnbegun, IsUnopened, MayOpen};
-ghost use Rattle.goo_cli_registry.specs.Finds.{HasState};
+ghost use Rattle.goo_cli_registry.specs.Finds.{Begins, HasState};
 ghost use Rattle.goo_cli_registry.specs.Refusals.{IsTurnedAway};
 ghost use Rattle.goo_cli_texts.specs.Declaring.{DeclaresRows};
 ghost use Rattle.goo_cli_texts.specs.Endings.{IsOfImport, IsOfText};
@@ -37,7 +36,9 @@ use std::io::{BufWriter, Read, Write};
 /// - `runs`: what the reader gave, and the first of its rows ([`declare`]), from the state that the
 ///   files held. The database file alone holds what these rows come to, after a crash too, where the
 ///   log could be copied into it; else the next opening finds that, or one row more at most.
-/// - `sound`: what the files held is sound, so that what a registry promises holds of these rows.
+/// - `begins`: what the files held is sound, so that what a registry promises holds of these rows. Where
+///   they hold what a crash left of a registry, it is the state that the crash is said to leave, one
+///   of two at most.
 /// - `words`: it ends as an import does.
 /// - `refused`, `turned_away`: where there is no registry, the word for what the files hold is told, or a
 ///   fault of the store or want of memory; nothing was read or written, and no harm came to what the
@@ -60,8 +61,8 @@ pub fn declare_in_files<D: Disk + Drop, R: Read, W: Write + Drop, T: Write, E: W
         → IfOpened result.1 (DeclaresRows result.0 (state_held db)
         (writer_contents W.contents writer.old) (writer_contents W.contents writer.new)
         (IsInFile result.1) (MayOpen result.1) (R.remaining reader.old) (R.remaining reader.new)) }
-    ensures sound { IsClean result.1 → (db : Trees) → HoldsDatabase (image_of D.Disk files) db
-        → IfOpened result.1 (IsSound (state_held db)) }
+    ensures begins { IsClean result.1 → (db : Trees) → HoldsDatabase (image_of D.Disk files) db
+        → IfOpened result.1 (Begins db) }
     ensures words { IfOpened result.1 (IsOfImport result.0) }
     ensures refused { IfRefused result.1
         (λ _. IsUnbegun result.0 (writer_contents W.contents writer.old)

@@ -13,6 +13,7 @@ ghost use Rattle.goo_registry.specs.Desks.{seen_of};
 ghost use Rattle.goo_cli_ending.specs.Endings.{status_of, IsOfLines, IsToldOf};
 ghost use Rattle.goo_cli_ending.specs.Runs.{HasState, MayFind, RunsInput};
 ghost use Rattle.goo_cli_registry.specs.Durable.{IfOpened, IsInFile, IsUnbegun, MayOpen};
+ghost use Rattle.goo_cli_registry.specs.Finds.{Begins};
 ghost use Rattle.goo_cli_registry.specs.Openings.{IsRun};
 ghost use Rattle.goo_cli_registry.specs.Closings.{HasSpareLog, IfRefused, IsClean};
 ghost use Rattle.goo_cli_registry.specs.Refusals.{IsTurnedAway};
@@ -126,7 +127,9 @@ pub fn run_in_memory<R: Read, W: Write + Drop>(
 ///   ([`answer_input`]), from the state that the files held. The database file alone holds what
 ///   these lines come to, after a crash too, where the log could be copied into it; else the next
 ///   opening finds that, or one line more at most.
-/// - `sound`: what the files held is sound, so that what a registry promises holds of these lines.
+/// - `begins`: what the files held is sound, so that what a registry promises holds of these lines. Where
+///   they hold what a crash left of a registry, it is the state that the crash is said to leave, one
+///   of two at most.
 /// - `words`: it ends as a run of lines does.
 /// - `refused`, `turned_away`: where there is no registry to run, the word for what the files hold is
 ///   told, or a fault of the store or want of memory; nothing was read or written, and no harm came to
@@ -148,8 +151,8 @@ pub fn run_in_files<D: Disk + Drop, R: Read, W: Write + Drop, T: Write>(
         → IfOpened result.1 (RunsInput result.0 (state_held db)
         (writer_contents W.contents writer.old) (writer_contents W.contents writer.new)
         (IsInFile result.1) (MayOpen result.1) (R.remaining reader.old) (R.remaining reader.new)) }
-    ensures sound { IsClean result.1 → (db : Trees) → HoldsDatabase (image_of D.Disk files) db
-        → IfOpened result.1 (IsSound (state_held db)) }
+    ensures begins { IsClean result.1 → (db : Trees) → HoldsDatabase (image_of D.Disk files) db
+        → IfOpened result.1 (Begins db) }
     ensures words { IfOpened result.1 (IsOfLines result.0) }
     ensures refused { IfRefused result.1
         (λ _. IsUnbegun result.0 (writer_contents W.contents writer.old)
