@@ -110,6 +110,8 @@ impl<'a, S: Start> System for Host<'a, S> {
 
     ghost held = { λ host path. image_at S.Start };
 
+    ghost refuses = { λ host deed reason. Unit {0} };
+
     fn open_kept(&mut self, path: &str) -> Result<Opened<FileFrom<S>>, Unopened> {
         let Ok(name) = String::from_str(self.rt.alloc(), path) else {
             return Err(Unopened::Memory);

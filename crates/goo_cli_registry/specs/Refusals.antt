@@ -44,7 +44,7 @@ module _ {D : Type 0} (g : Ghosts D) (files : Files D) where
   abbrev pub IsTaken : Type 0
   IsTaken = (conn : Held (FileStore D g)) × IsOver files conn × ((file_state conn).now.schema ≢ no_schema)
 
-  -- it has none; `conn` is over these files while they return what was written
+  -- It has none. `conn` is over these files only while they return what was written: nothing is said of them where they did not.
   abbrev pub IsVacant : Type 0
   IsVacant = (conn : Held (FileStore D g)) × (HasCleanDisk (file_state conn) → IsOver files conn) × (¬ ((file_state conn).now.schema ≢ no_schema))
 

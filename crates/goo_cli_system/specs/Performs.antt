@@ -16,21 +16,24 @@ use Rattle.goo_cli_jobs.specs.declared.work.Job.{Job}
 use Rattle.goo_cli_jobs.specs.declared.work.Job.TheVariants as job
 use Rattle.goo_cli_system.specs.Deeds.{Deed, OpenKept, OpenNew}
 use Rattle.goo_cli_system.specs.Uses.{Declines, MakesIn, Uses, WorksIn}
+use Rattle.goo_cli_system.specs.declared.unopened.Unopened.{Unopened}
 
-module _ {D : Type 0} (g : Ghosts D) (held : List ℕ → Image) (old new : List Deed) (before after had has : Option (List ℕ)) (from now : Clients) (told : Ending) where
+module _ (before after had has : Option (List ℕ)) (from now : Clients) where
   -- nothing is read or written, and the listener is asked for nothing
   pub record IsIdle : Type 0 where
     pub unread : Keeps before after
     pub silent : Keeps had has
     pub unheard : now ≡ from
 
-  -- What a job comes to. The files of its path alone are opened, or none can be: then nothing else is done. A registry in memory needs none.
+module _ {D : Type 0} (g : Ghosts D) (held : List ℕ → Image) (refuses : Deed → Unopened → Type 0) (old new : List Deed) (before after had has : Option (List ℕ)) (from now : Clients) (told : Ending) where
+  -- What a job comes to. The files of its path alone are opened, or the system refuses to open them: then nothing else is done. A registry in
+  -- memory needs none.
   abbrev pub Performs : Job → Type 0
   Performs (job.Make path opening) =
-      (Declines told old new × IsIdle)
+      (Declines (refuses (OpenNew path.now)) told old new × IsIdle before after had has from now)
       ⊎ Uses g (OpenNew path.now) path.now (held path.now) old new (MakesIn g (created opening.code opening.today opening.next_serial) opening.code had has told)
   Performs (job.InFile path work) =
-      (Declines told old new × IsIdle)
+      (Declines (refuses (OpenKept path.now)) told old new × IsIdle before after had has from now)
       ⊎ Uses g (OpenKept path.now) path.now (held path.now) old new (WorksIn g before after had has told from now work)
   Performs (job.InMemory opening work) =
       (new ≡ old) × IsWorkedInMemory (created opening.code opening.today opening.next_serial) before after had has told from now work
@@ -42,7 +45,7 @@ module _ {D : Type 0} (g : Ghosts D) (held : List ℕ → Image) (old new : List
     pub none : NoTask (task_in words) fault
     pub right : FaultIn words fault
     pub did : new ≡ old
-    pub idle : IsIdle
+    pub idle : IsIdle before after had has from now
 
   -- the program does what its words ask for, or refuses them
   abbrev pub IsPerformed : List (List ℕ) → Type 0

@@ -31,9 +31,10 @@ failure_of why.NotARegistry = failure.NotARegistry
 failure_of why.Store = failure.Store
 failure_of why.Memory = failure.Memory
 
--- no files were opened, for a reason that is told, and nothing was done
-pub record Declines (told : Ending) (old new : List Deed) : Type 0 where
+-- no files were opened: the system was asked for them, why it refuses is told, and nothing was done
+pub record Declines (Refuses : Unopened → Type 0) (told : Ending) (old new : List Deed) : Type 0 where
   pub reason : Unopened
+  pub refused : Refuses reason
   pub tells : told ≡ Failed (failure_of reason)
   pub did : new ≡ old
 

@@ -28,8 +28,8 @@ fn make_at<Y: System, W: Write + Drop>(
     opening: Opening,
     writer: &mut BufWriter<W>,
 ) -> Ending
-    ensures { (Declines result (Y.did system.old) (Y.did system.new)
-        × Keeps (writer_contents W.contents writer.old) (writer_contents W.contents writer.new))
+    ensures { (Declines (Y.refuses system.old (OpenNew path.now)) result (Y.did system.old)
+        (Y.did system.new) × Keeps (writer_contents W.contents writer.old) (writer_contents W.contents writer.new))
         ⊎ Uses Y.Disk.Disk (OpenNew path.now) path.now (Y.held system.old path.now)
         (Y.did system.old) (Y.did system.new)
         (MakesIn Y.Disk.Disk (created opening.code opening.today opening.next_serial) opening.code
@@ -56,11 +56,10 @@ fn work_at<Y: System, L: Listener, R: Read, W: Write + Drop>(
     reader: &mut R,
     writer: &mut BufWriter<W>,
 ) -> Ending
-    ensures { (Declines result (Y.did system.old) (Y.did system.new)
-        × IsIdle Y.Disk.Disk (Y.held system.old) (Y.did system.old) (Y.did system.new)
-        (R.remaining reader.old) (R.remaining reader.new)
+    ensures { (Declines (Y.refuses system.old (OpenKept path.now)) result (Y.did system.old)
+        (Y.did system.new) × IsIdle (R.remaining reader.old) (R.remaining reader.new)
         (writer_contents W.contents writer.old) (writer_contents W.contents writer.new)
-        (L.clients listener.old) (L.clients listener.new) result)
+        (L.clients listener.old) (L.clients listener.new))
         ⊎ Uses Y.Disk.Disk (OpenKept path.now) path.now (Y.held system.old path.now)
         (Y.did system.old) (Y.did system.new)
         (WorksIn Y.Disk.Disk (R.remaining reader.old) (R.remaining reader.new)
@@ -100,7 +99,8 @@ fn perform_job<Y: System, L: Listener, R: Read, W: Write + Drop>(
     reader: &mut R,
     writer: &mut BufWriter<W>,
 ) -> Ending
-    ensures { Performs Y.Disk.Disk (Y.held system.old) (Y.did system.old) (Y.did system.new)
+    ensures { Performs Y.Disk.Disk (Y.held system.old) (Y.refuses system.old) (Y.did system.old)
+        (Y.did system.new)
         (R.remaining reader.old) (R.remaining reader.new)
         (writer_contents W.contents writer.old) (writer_contents W.contents writer.new)
         (L.clients listener.old) (L.clients listener.new) result job.now }
@@ -126,8 +126,8 @@ fn tell<Y: System>(system: &Y, ending: &Ending) -> u8
 /// tells the exit status.
 ///
 /// The status is that of an ending, of which this holds: the words ask for a task, and what is done
-/// is the task's job, with the files of its path and no others; or they ask for none, that is told,
-/// and nothing is done. A log is removed only where it may go, whatever a crash leaves of the files,
+/// is the task's job, with the files of its path and no others, or why the system refuses to open
+/// them is told; or they ask for none, that is told, and nothing is done. A log is removed only where it may go, whatever a crash leaves of the files,
 /// and nothing else is removed.
 pub fn perform<P: AsStr, Y: System, L: Listener, R: Read, W: Write + Drop>(
     alloc: Global,
@@ -138,7 +138,8 @@ pub fn perform<P: AsStr, Y: System, L: Listener, R: Read, W: Write + Drop>(
     writer: &mut BufWriter<W>,
 ) -> u8
     ensures { (told : End) × (result ≡ status_of told)
-        × IsPerformed Y.Disk.Disk (Y.held system.old) (Y.did system.old) (Y.did system.new)
+        × IsPerformed Y.Disk.Disk (Y.held system.old) (Y.refuses system.old) (Y.did system.old)
+        (Y.did system.new)
         (R.remaining reader.old) (R.remaining reader.new)
         (writer_contents W.contents writer.old) (writer_contents W.contents writer.new)
         (L.clients listener.old) (L.clients listener.new) told

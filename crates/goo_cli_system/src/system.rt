@@ -1,5 +1,5 @@
 //! What the program asks of the system that it runs on.
-ghost use Rattle.std.specs.Prelude.{ℕ, List, IfOk};
+ghost use Rattle.std.specs.Prelude.{ℕ, List, IfOk, IfErr};
 ghost use Rattle.sqlite_wal.specs.Recovery.{Image};
 ghost use Rattle.goo_cli_system.specs.Deeds.{AreAt, Deed, Did, LetsGo, MayLoseLog};
 ghost use Rattle.goo_cli_system.specs.Deeds.{OpenKept, OpenNew};
@@ -22,6 +22,8 @@ pub struct Opened<D: Disk> {
 /// What the program asks of the system that it runs on, its standard input and output and its
 /// listener aside.
 pub trait System {
+    ghost use Rattle.goo_cli_system.specs.declared.unopened.Unopened.{Unopened};
+
     /// A file.
     type Disk: Disk + Drop;
 
@@ -34,6 +36,9 @@ pub trait System {
     /// What the database file at a path and the log beside it hold.
     ghost held: { Self → List ℕ → Image };
 
+    /// Why files are not opened, where the system is asked to do this and does not.
+    ghost refuses: { Self → Deed → Unopened → Type 0 };
+
     /// The files at a path at which a registry is to be.
     ///
     /// # Errors
@@ -42,7 +47,8 @@ pub trait System {
     fn open_kept(&mut self, path: &str) -> Result<Opened<Self::Disk>, Unopened>
         ensures at { IfOk result
             (λ opened. AreAt Self.Disk.Disk (held self.old path.now) opened.files) }
-        ensures did { Did (OpenKept path.now) result (did self.old) (did self.new) };
+        ensures did { Did (OpenKept path.now) result (did self.old) (did self.new) }
+        ensures refused { IfErr result (refuses self.old (OpenKept path.now)) };
 
     /// The files at a path at which a registry is to be made.
     ///
@@ -52,7 +58,8 @@ pub trait System {
     fn open_new(&mut self, path: &str) -> Result<Opened<Self::Disk>, Unopened>
         ensures at { IfOk result
             (λ opened. AreAt Self.Disk.Disk (held self.old path.now) opened.files) }
-        ensures did { Did (OpenNew path.now) result (did self.old) (did self.new) };
+        ensures did { Did (OpenNew path.now) result (did self.old) (did self.new) }
+        ensures refused { IfErr result (refuses self.old (OpenNew path.now)) };
 
     /// Lets the files of a path go. A log that is spare is removed before anyone else can open them.
     fn let_go(&mut self, path: &str, settled: Settled<Self::Disk>)
