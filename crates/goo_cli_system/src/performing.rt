@@ -29,7 +29,8 @@ fn make_at<Y: System, W: Write + Drop>(
     writer: &mut BufWriter<W>,
 ) -> Ending
     ensures { (Declines (Y.refuses system.old (OpenNew path.now)) result (Y.did system.old)
-        (Y.did system.new) × Keeps (writer_contents W.contents writer.old) (writer_contents W.contents writer.new))
+        (Y.did system.new)
+        × Keeps (writer_contents W.contents writer.old) (writer_contents W.contents writer.new))
         ⊎ Uses Y.Disk.Disk (OpenNew path.now) path.now (Y.held system.old path.now)
         (Y.did system.old) (Y.did system.new)
         (MakesIn Y.Disk.Disk (created opening.code opening.today opening.next_serial) opening.code

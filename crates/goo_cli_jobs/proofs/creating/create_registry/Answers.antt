@@ -60,10 +60,11 @@ returns-in_default g c = record {
   vacant = tt;
   tells = λ clean.
       vacant_tells c.args.files c.ending_of-in_default.result _ (unmade c.in-Err-begin.fault c.ending_of-in_default.result c.ending_of-in_default.ensures c.in-Err-begin.ensures.words)
-      (λ told. c.in_default.not-AlreadyThere (only_there c.in-Err-begin.fault (sym c.ending_of-in_default.ensures ∙ told)))
-      (c.in-Ok.conn,
-      λ clean. record { finds = c.in-Ok.ensures.found clean; opened = c.in-Ok.ensures.opened clean; unlimited = c.in-Ok.ensures.fresh.unlimited },
-      λ taken. c.in_default.not-AlreadyThere (c.in-Err-begin.ensures.taken taken));
+      (λ told. c.in_default.not-AlreadyThere (only_there c.in-Err-begin.fault (sym c.ending_of-in_default.ensures ∙ told))) (
+        c.in-Ok.conn,
+        λ clean. record { finds = c.in-Ok.ensures.found clean; opened = c.in-Ok.ensures.opened clean; unlimited = c.in-Ok.ensures.fresh.unlimited },
+        λ taken. c.in_default.not-AlreadyThere (c.in-Err-begin.ensures.taken taken),
+      );
   held = tt;
   copied = tt;
   uncopied = tt;
@@ -81,6 +82,7 @@ returns-in-AlreadyThere-clause-tells g c clean =
     let late : HasCleanDisk (file_state c.in-Err-begin.conn) = clean_before _ _ c.into_store.ensures.quiet.clean clean in
     let before : HasCleanDisk (file_state c.in-Ok.conn) = c.in-Err-begin.ensures.clean late in
     rw c.ending_of-in-AlreadyThere.ensures (rw c.in-AlreadyThere.is (
-    c.in-Ok.conn,
-    record { finds = c.in-Ok.ensures.found before; opened = c.in-Ok.ensures.opened before; unlimited = c.in-Ok.ensures.fresh.unlimited },
-    λ none. c.in-Err-begin.ensures.untaken none c.in-AlreadyThere.is))
+      c.in-Ok.conn,
+      record { finds = c.in-Ok.ensures.found before; opened = c.in-Ok.ensures.opened before; unlimited = c.in-Ok.ensures.fresh.unlimited },
+      λ none. c.in-Err-begin.ensures.untaken none c.in-AlreadyThere.is,
+    ))

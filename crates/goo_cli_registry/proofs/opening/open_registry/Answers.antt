@@ -60,14 +60,18 @@ returns-in-Err-open_observed-clause-why g c = λ clean.
     let it = c.in-Err-open_observed in
     let late = clean_before _ _ c.into_store.ensures.quiet.clean clean in
     let before = it.ensures.not_opened.clean_before late in
-    inl (it.fault, c.failure_of.ensures, record {
-      before = c.in-Ok.conn;
-      after = it.conn;
-      over = record { finds = c.in-Ok.ensures.found before; opened = c.in-Ok.ensures.opened before; unlimited = c.in-Ok.ensures.fresh.unlimited };
-      clean = late;
-      lacking = λ lacks. ap (λ r. fault_in it.fault r) (it.ensures.lacking lacks);
-      why = it.ensures.not_opened;
-    })
+    inl (
+      it.fault,
+      c.failure_of.ensures,
+      record {
+        before = c.in-Ok.conn;
+        after = it.conn;
+        over = record { finds = c.in-Ok.ensures.found before; opened = c.in-Ok.ensures.opened before; unlimited = c.in-Ok.ensures.fresh.unlimited };
+        clean = late;
+        lacking = λ lacks. ap (λ r. fault_in it.fault r) (it.ensures.lacking lacks);
+        why = it.ensures.not_opened;
+      },
+    )
 
 pub returns-in-Err-clause-why : goal.returns-in-Err-clause-why
 returns-in-Err-clause-why g c = λ clean. why_unread c.args.files c.in-Err.left c.in-Err.fault c.from.result c.from.ensures (λ store. c.in-Err.ensures.store store clean)
