@@ -1,5 +1,5 @@
 -- What is told of the making of a registry.
-use Rattle.std.proofs.Common.{◌≡◌, ◌⊎◌, ◌≢◌, ◌∙◌, ap, arith, inl, inr, refl, subst, sym}
+use Rattle.std.proofs.Common.{◌≡◌, ◌⊎◌, ◌≢◌, ap, arith, inl, inr, refl, subst, sym}
 use Rattle.sqlite_disk.specs.declared.Disk.{Ghosts}
 use Rattle.sqlite_disk.specs.declared.Files.{Files}
 use Rattle.sqlite.specs.declared.file.Leftover.{Leftover}
@@ -12,7 +12,7 @@ use Rattle.goo_cli_ending.specs.declared.ending.Ending.TheVariants as ending
 use Rattle.goo_cli_ending.specs.declared.ending.Failure.{Failure}
 use Rattle.goo_cli_ending.specs.declared.ending.Failure.TheVariants as failure
 use Rattle.goo_cli_registry.specs.Openings.{IsBlamed, IsOfInit}
-use Rattle.goo_cli_registry.specs.Refusals.{AreBlamed, IsVacant, TellsMaking}
+use Rattle.goo_cli_registry.specs.Refusals.{IsVacant, TellsMaking}
 use Rattle.goo_cli_registry.specs.declared.closing.Left.{Left}
 use Rattle.goo_cli_registry.specs.declared.closing.Left.TheVariants as left
 

@@ -3,16 +3,19 @@ use Rattle.std.proofs.Common.{◌≡◌, List, ℕ, Option, None}
 use Rattle.std.specs.FinMap.{get}
 use Rattle.std.specs.Io.KnownBytes.{Keeps}
 use Rattle.sqlite_disk.specs.declared.Disk.{Ghosts}
+use Rattle.sqlite.specs.Tree.{Trees}
+use Rattle.goo_store_opening.specs.Versions.{state_held}
 use Rattle.goo_spec.specs.State.{State}
 use Rattle.goo_spec.specs.Sound.{IsSound}
 use Rattle.goo_files.specs.Texts.{IsAuditText, IsStatement}
 use Rattle.goo_files.specs.Writes.{Began, Wrote}
 use Rattle.goo_cli_ending.specs.declared.ending.Ending.{Ending}
 use Rattle.goo_cli_registry.specs.Closings.{HoldsSome, IfRefused}
-use Rattle.goo_cli_registry.specs.Finds.{HasState}
+use Rattle.goo_cli_registry.specs.Finds.{Begins, HasState}
 use Rattle.goo_cli_registry.specs.Durable.{IfOpened, IsInFile, IsUnbegun, IsUnopened, MayOpen}
 use Rattle.goo_cli_texts.specs.Declaring.{DeclaresRows}
 use Rattle.goo_cli_registry.specs.declared.closing.Left.{Left}
+use Rattle.goo_cli_registry.specs.declared.closing.Left.TheVariants as left
 use Rattle.goo_desk_listener.specs.Clients.{Clients}
 use Rattle.goo_cli_files.specs.ServerEndings.{IsCounted, IsOfServer}
 use Rattle.goo_cli_files.specs.ServesConnections.{IsAnnounced, IsUnserved, ServesConnections}
@@ -22,6 +25,12 @@ use Rattle.goo_cli_texts.specs.Endings.{IsOfImport, IsOfText}
 use Rattle.goo_cli_ending.specs.Runs.{RunsInput}
 use Rattle.goo_cli_files.specs.Durable.{IsLeftToFind}
 use Rattle.goo_cli_jobs.specs.Works.{AreAnswered, AreImported, IsAudited, IsServed, IsStated}
+
+-- what a registry begins with is sound
+pub sound_of : {D : Type 0} {g : Ghosts D} (rest : Left D g) (db : Trees) → IfOpened rest (Begins db) → IfOpened rest (IsSound (state_held db))
+sound_of (left.Whole files) db begins = begins.sound
+sound_of (left.Refused rest) db begins = tt
+sound_of (left.Parts rest) db begins = begins.sound
 
 pub answered : {D : Type 0} {g : Ghosts D} (s : State) (before after had has : Option (List ℕ)) (told : Ending) (rest : Left D g) → IfOpened rest (RunsInput told s had has (IsInFile rest) (MayOpen rest) before after) → IfOpened rest (IsSound s)
     → IfOpened rest (IsOfLines told) → IfRefused rest (λ _. IsUnbegun told had has before after) → AreAnswered s before after had has told rest

@@ -81,7 +81,7 @@ pub returns-in-AlreadyThere-clause-tells : goal.returns-in-AlreadyThere-clause-t
 returns-in-AlreadyThere-clause-tells g c clean =
     let late : HasCleanDisk (file_state c.in-Err-begin.conn) = clean_before _ _ c.into_store.ensures.quiet.clean clean in
     let before : HasCleanDisk (file_state c.in-Ok.conn) = c.in-Err-begin.ensures.clean late in
-    rw c.ending_of-in-AlreadyThere.ensures (rw c.in-AlreadyThere.is (
+    rw c.ending_of.ensures (rw c.in-AlreadyThere.is (
       c.in-Ok.conn,
       record { finds = c.in-Ok.ensures.found before; opened = c.in-Ok.ensures.opened before; unlimited = c.in-Ok.ensures.fresh.unlimited },
       λ none. c.in-Err-begin.ensures.untaken none c.in-AlreadyThere.is,

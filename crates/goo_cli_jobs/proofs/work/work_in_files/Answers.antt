@@ -1,16 +1,16 @@
 use Rattle.goo_store_opening.specs.Versions.{state_held}
-use Rattle.goo_cli_jobs.proofs.WorkLemmas.{answered, audited, imported, served, stated}
+use Rattle.goo_cli_jobs.proofs.WorkLemmas.{answered, audited, imported, served, sound_of, stated}
 use Rattle.goo_cli_jobs.proofs.work.work_in_files.Goals as goal
 
 pub returns-in-Run-clause-worked : goal.returns-in-Run-clause-worked
 returns-in-Run-clause-worked g c = λ clean db holds.
     let it = c.run_in_files.ensures in
-    rw c.in-Run.is (answered (state_held db) _ _ _ _ c.run_in_files.result.0 c.run_in_files.result.1 (it.runs clean db holds) (it.sound clean db holds) it.words it.refused)
+    rw c.in-Run.is (answered (state_held db) _ _ _ _ c.run_in_files.result.0 c.run_in_files.result.1 (it.runs clean db holds) (sound_of c.run_in_files.result.1 db (it.begins clean db holds)) it.words it.refused)
 
 pub returns-in-Declare-clause-worked : goal.returns-in-Declare-clause-worked
 returns-in-Declare-clause-worked g c = λ clean db holds.
     let it = c.declare_in_files.ensures in
-    rw c.in-Declare.is (imported (state_held db) _ _ _ _ c.declare_in_files.result.0 c.declare_in_files.result.1 (it.runs clean db holds) (it.sound clean db holds) it.words it.refused)
+    rw c.in-Declare.is (imported (state_held db) _ _ _ _ c.declare_in_files.result.0 c.declare_in_files.result.1 (it.runs clean db holds) (sound_of c.declare_in_files.result.1 db (it.begins clean db holds)) it.words it.refused)
 
 pub returns-in-Statement-clause-worked : goal.returns-in-Statement-clause-worked
 returns-in-Statement-clause-worked g c = λ clean db holds.
