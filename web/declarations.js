@@ -1,9 +1,9 @@
 // Declarations: a file of them, read before anything is sent, and one by hand.
 
 import {h, busy, csvButton, longTable, number, written, between, count, result} from './dom.js';
-import {aboutPeriod} from './doubts.js';
+import {aboutEnergy, aboutPeriod} from './doubts.js';
 import {drop, form, sure} from './forms.js';
-import {t} from './language.js';
+import {language, t} from './language.js';
 import {HEADER, readDeclarations} from './reading.js';
 import {asked, followed, records} from './records.js';
 import {newKey, submitAmongMany} from './registry.js';
@@ -14,6 +14,8 @@ import * as words from './words.js';
 const MOST_BYTES = 1048576;
 /** Devices whose earlier declarations are looked up for rows that are only repeated. */
 const MOST_DEVICES = 100;
+/** Rows of one kind that a question names. */
+const FEW = 5;
 const rowsOf = (n) => n === 1 ? t`1 row` : t`${count(n)} rows`;
 const grouped = (digits) => /^\d{1,16}$/.test(digits ?? '') ? count(BigInt(digits)) : digits;
 const COLUMNS = [[t`Row`, 'right'], [t`Key`], [t`Device`, 'wide'], [t`Period`, 'wide'], [t`Gross Wh`, 'right wide'], [t`Aux. Wh`, 'right wide'], [t`Answer`, 'answer']];
@@ -37,13 +39,23 @@ async function taken(file, shown) {
   const whole = faults.find(({row}) => row === 0);
   if (whole) return [result({good: false, title: t`Nothing was sent: ${whole.field}`, sentence: whole.reason})];
   if (faults.length) return atFault(file.name, rows, faults);
+  const energy = await aboutEnergy(tableOf(rows));
   const button = h('button', {type: 'button', class: 'main', onclick: () => busy(button, async () => {
-    if (!await isMeant(file.name, rows)) return;
+    if (!await isMeant(file.name, rows, energy)) return;
     const {answers, outcome, rounds} = await sendInOrder(file.name, rows, (n) => { button.textContent = t`${count(n)} of ${count(rows.length)} answered`; });
     shown.replaceChildren(...sentFile(file.name, rows, answers, outcome, rounds));
     document.dispatchEvent(new CustomEvent('answered'));
   })}, t`Declare ${rowsOf(rows.length)}`);
-  return [listOf(file.name, rows, []), h('div', {class: 'buttons'}, button)];
+  const asked = rows.map((_, i) => energy.rows.has(i + 1) && {word: 'kept', said: [h('b', {class: 'word kept'}, t`Is this meant?`), ' ', energy.rows.get(i + 1)]});
+  return [asDoubted(energy), listOf(file.name, rows, asked), h('div', {class: 'buttons'}, button)];
+}
+
+const tableOf = (rows) => [HEADER, ...rows.map((fields) => fields.join())].join('\n') + '\n';
+
+/** What is doubtful about a file that has no fault, above its rows. */
+function asDoubted({file, rows}) {
+  if (!file.length && !rows.size) return null;
+  return result({kept: true, title: rows.size ? t`To be looked at before it is sent: ${rowsOf(rows.size)}` : t`To be looked at before it is sent`, sentence: file.join(' ')});
 }
 
 /** A file with rows at fault: nothing of it is sent. */
@@ -71,12 +83,12 @@ function sentFile(name, rows, answers, outcome, rounds) {
 const savedRow = ([key, device, first_day, last_day, gross_wh, aux_wh], i, answer) => ({row: i + 1, key, device, first_day, last_day, gross_wh, aux_wh, outcome: answer?.word ?? 'not sent', reason: answer?.reason ?? '',
   ...(answer?.issued ? {count: answer.issued.count, first: answer.issued.first, last: answer.issued.last} : {})});
 
-/** The rows with what was said of them: those that failed alone, where there are any and many rows. */
+/** The rows with what was said of them: those that failed first, as they have to be looked at. */
 function listOf(name, rows, answers, isIssued = false) {
   const all = rows.map((fields, i) => ({fields, number: i + 1, answer: answers[i]}));
-  const failed = all.filter(({answer}) => answer && FAILED.includes(answer.word));
-  const some = failed.length && all.length > 400 ? failed : all;
-  const caption = h('span', {}, written(name), `, ${rowsOf(rows.length)}`, some.length < all.length ? t`; ${count(some.length)} that failed` : '');
+  const failed = all.filter(({answer}) => answer && [...FAILED, 'kept'].includes(answer.word));
+  const rest = all.filter((row) => !failed.includes(row)), some = [...failed, ...rest];
+  const caption = h('span', {}, written(name), `, ${rowsOf(rows.length)}`, failed.length && rest.length ? failed.every(({answer}) => answer.word === 'kept') ? t`; ${count(failed.length)} to be looked at come first` : t`; ${count(failed.length)} that failed come first` : '');
   return longTable(caption, isIssued ? [...COLUMNS, ...ISSUED] : COLUMNS, some.map(({fields: [key, device, first, last, gross, aux], number: at, answer}) => Object.assign(
     [count(at), key, device, first || last ? between(first ?? '', last ?? '') : '', grouped(gross), grouped(aux), answer ? answer.said : h('span', {class: 'quiet'}, t`not sent`), ...(isIssued ? issuedCells(answer?.issued) : [])],
     {kind: answer?.word})));
@@ -85,16 +97,20 @@ function listOf(name, rows, answers, isIssued = false) {
 const issuedCells = (issued) => issued ? [count(issued.count), issued.count ? between(number(issued.first), number(issued.last)) : ''] : ['', ''];
 
 /** Asks before a file is sent, with its sums and what is odd about its periods. */
-function isMeant(name, rows) {
-  const sum = rows.reduce((total, [, , , , gross, aux]) => total + BigInt(gross) - BigInt(aux), 0n);
+function isMeant(name, rows, energy) {
   const days = rows.flatMap(([, , first, last]) => [first, last]).sort();
   const odd = rows.filter(([, , first, last]) => aboutPeriod(first, last).length);
   return sure(t`Declare production`, t`Declare ${rowsOf(rows.length)}`, {final: true,
     facts: [[t`File`, name], [t`Rows`, count(rows.length)], [t`Devices`, count(new Set(rows.map(([, device]) => device)).size)], [t`Periods`, between(days[0], days.at(-1))],
-      [t`Net production`, t`${count(sum / 1000000n)} MWh and ${count(sum % 1000000n)} Wh`]],
-    doubts: odd.slice(0, 5).map(([key, , first, last]) => t`Row with the key ${key}: ${aboutPeriod(first, last)[0]}`)
-      .concat(odd.length > 5 ? t`${count(odd.length - 5)} more rows are like these.` : [])});
+      [t`Net production`, sumOf(rows)], ...energy.facts],
+    doubts: [...energy.file, ...firstOf([...energy.rows].map(([row, said]) => t`Row with the key ${rows[row - 1][0]}: ${said}`), energy.more),
+      ...firstOf(odd.map(([key, , first, last]) => t`Row with the key ${key}: ${aboutPeriod(first, last)[0]}`))]});
 }
+
+/** The first few of many doubts, and how many more there are. */
+const firstOf = (doubts, others = 0) => [...doubts.slice(0, FEW), ...(doubts.length > FEW ? [t`${count(doubts.length - FEW + others)} more rows are like these.`] : [])];
+
+const sumOf = (rows) => `${(Number(rows.reduce((total, [, , , , gross, aux]) => total + BigInt(gross) - BigInt(aux), 0n)) / 1e6).toLocaleString(language, {maximumFractionDigits: 6})} MWh`;
 
 /**
  * Sends the rows in rounds: of each device the next one, which waits for the answer to the one before. Where a row is not

@@ -2,11 +2,12 @@
 // do, and doubts, a sentence each. The registry would accept what is doubted here.
 
 import {count, special} from './dom.js';
-import {known, t} from './language.js';
+import {known, language, t} from './language.js';
 import {LISTS} from './paper.js';
-import {asked, everyItem, followed, records} from './records.js';
+import {HEADER} from './reading.js';
+import {asked, askedOf, everyItem, followed, records} from './records.js';
 import {statementOf, statements} from './registry.js';
-import {today, monthsAfter} from './session.js';
+import {session, today, monthsAfter} from './session.js';
 
 const MONTHS_OF_TRADE = 12, MONTHS_TO_EXPIRY = 18;
 
@@ -29,6 +30,36 @@ export const aboutDevice = (values) => [
 export function aboutPeriod(first, last) {
   if (last >= today()) return [t`The period to ${last} is not over: today is ${today()}.`];
   return today() > monthsAfter(last, MONTHS_OF_TRADE) ? [t`The period to ${last} ended more than a year ago.`] : [];
+}
+
+const percent = (factor) => `${(100 * factor).toLocaleString(language, {maximumSignificantDigits: 3})} %`;
+/** What the records ask about the energy of a row or a file, in words. */
+const ENERGY = {
+  nothing: () => t`Nothing was produced.`,
+  below: ({factor}) => t`It is ${percent(factor)} of the capacity, below a thousandth: is it in Wh?`,
+  above: ({factor, usual}) => t`It is ${percent(factor)} of the capacity, and ${percent(usual)} is plausible at most.`,
+  less: ({factor, usual}) => t`It is ${percent(factor)} of the capacity, less than a tenth of the ${percent(usual)} of the last periods.`,
+  more: ({factor, usual}) => t`It is ${percent(factor)} of the capacity, more than three times the ${percent(usual)} of the last periods.`,
+  mostly: ({rows}) => t`${count(rows)} rows are below a thousandth of the capacity of their devices: is the file in kWh or MWh, and not in Wh?`,
+  thousandth: () => t`The file is near a thousandth of what its devices made in the period before: is it in kWh, and not in Wh?`,
+  millionth: () => t`The file is near a millionth of what its devices made in the period before: is it in MWh, and not in Wh?`,
+  thousandfold: () => t`The file is near a thousandfold of what its devices made in the period before: which of the two is in Wh?`,
+  millionfold: () => t`The file is near a millionfold of what its devices made in the period before: which of the two is in Wh?`,
+};
+
+/**
+ * What the records say of the energy of a table of declarations: facts, what is asked about the file, and what about each
+ * row by its number. They have the rule. Where they can't be asked, that is what is asked about.
+ */
+export async function aboutEnergy(table) {
+  let found;
+  if (!records.isThere && session.role !== 'declares') return {facts: [], file: [], rows: new Map(), more: 0};     // whoever may only declare can't see whether they are there
+  try { found = await askedOf('doubts', table); } catch (fault) {
+    return {facts: [], more: 0, rows: new Map(), file: [t`Nobody has looked whether the energy is plausible: ${known(fault.problem?.title ?? fault.message)}.`]};
+  }
+  const said = (of) => ENERGY[of.kind]?.(of) ?? of.text, [file, rows] = [found.doubts.filter(({row}) => !row), found.doubts.filter(({row}) => row)];
+  return {facts: found.load_factor === null ? [] : [[t`Mean load factor`, percent(found.load_factor)]],
+    file: file.map(said), rows: new Map(rows.map((of) => [of.row, said(of)])), more: found.more};
 }
 
 /** Doubts about a period of use, by the periods in which its certificates were produced. */
@@ -98,10 +129,16 @@ async function ofAdvance({day}, progress) {
   };
 }
 
+/** What one declaration comes to. */
+async function ofDeclare(v) {
+  const {facts, file, rows} = await aboutEnergy(`${HEADER}\none,${v.device},${v.first_day},${v.last_day},${v.gross_wh},${v.aux_wh}\n`);
+  return {facts, doubts: [...aboutPeriod(v.first_day, v.last_day), ...file, ...rows.values()]};
+}
+
 const OF = {
   cancel: ofCancel,
   advance: ofAdvance,
-  declare: async (v) => ({facts: [], doubts: aboutPeriod(v.first_day, v.last_day)}),
+  declare: ofDeclare,
   register_device: async (v) => ({facts: [], doubts: aboutDevice(v)}),
 };
 

@@ -24,8 +24,15 @@ const outcome = (act) => act.outcome === 'accepted' ? OUTCOMES.accepted : h('b',
 /** The document that an act made. */
 function paperOf(act) {
   if (!act.number || act.outcome !== 'accepted') return '';
+  if (act.acts > 1 && act.last_number > act.number) return papersOf(act);
   if (act.kind === 'cancellation') return h('a', {href: `#document/${act.number}`}, t`cancellation ${act.number}`);
   return {withdrawal: t`withdrawal ${act.number}`, correction: t`withdrawal ${act.number}`, export: t`notice ${act.number}`, import: t`notice ${act.number}`, account: t`account ${act.number}`}[act.kind] ?? String(act.number);
+}
+
+/** The documents that the acts of a bundle made: nothing comes between them, so they are numbered one after another. */
+function papersOf({kind, number: first, last_number: end}) {
+  if (kind === 'cancellation') return h('a', {href: `#document/${first}-${end}`}, t`cancellations ${first} to ${end}`);
+  return {withdrawal: t`withdrawals ${first} to ${end}`, export: t`notices ${first} to ${end}`, account: t`accounts ${first} to ${end}`}[kind] ?? '';
 }
 
 /** The first of an act's ranges, and how many more there are. */
@@ -34,28 +41,42 @@ const rangesOf = (act) => act.ranges.length === 0 ? '' : [between(number(act.ran
 /** How many rows of a table an act tells of. */
 const rowsOf = (n) => n === 1 ? t`1 row` : t`${count(n)} rows`;
 
+/** How many acts a line tells of, with the way to them. */
+const many = (act) => act.acts > 1 ? [' ', h('a', {href: `#history//bundle=${act.bundle}`}, t`${count(act.acts)} as one`)] : '';
+/** What else there is to say of how it ended. */
+const ended = (act) => act.lines ? [', ', rowsOf(act.rows)] : act.failed && act.failed < act.acts ? [', ', t`${count(act.failed)} not`] : act.bundle && act.rows > 1 ? [', ', t`none of ${count(act.rows)} requests was carried out`] : '';
+
 const COLUMNS = [[t`When, UTC`, 'wide'], [t`Act`, 'wide'], [t`Count`, 'right'], [t`From`, 'wide'], [t`To`, 'wide'], [t`Certificates`, 'range'], [t`Outcome`, 'wide'], [t`Document`, 'wide'], [t`Note`, 'wide']];
+/** The columns of ranges and documents. */
+const LONG = [5, 7];
 const far = (act) => act.kind === 'export' || act.kind === 'import' ? t`registry ${act.peer}` : '';
-const cells = (act) => Object.assign([whenOf(act), KINDS[act.kind], act.count ? count(act.count) : '', act.kind === 'import' ? far(act) : party(act.giver), act.kind === 'export' ? far(act) : party(act.taker), rangesOf(act),
-  [outcome(act), act.lines ? [', ', rowsOf(act.rows)] : ''], paperOf(act), [act.device ?? '', act.device && act.note ? ', ' : '', act.note ? written(act.note) : '', act.user ? t` by ${act.user}` : '']], {kind: act.outcome === 'accepted' ? 'accepted' : 'refused'});
+const cells = (act) => Object.assign([whenOf(act), [KINDS[act.kind], many(act)], act.count ? count(act.count) : '', act.kind === 'import' ? far(act) : party(act.giver), act.kind === 'export' ? far(act) : party(act.taker), rangesOf(act),
+  [outcome(act), ended(act)], paperOf(act), [act.device ?? '', act.device && act.note ? ', ' : '', act.note ? written(act.note) : '', act.user ? t` by ${act.user}` : '']], {kind: act.outcome === 'accepted' ? 'accepted' : 'refused'});
 
 const choices = (words) => [['', t`all`], ...Object.entries(words)];
-const FILTERS = [{name: 'account', label: t`Account`}, {name: 'kind', label: t`Act`, options: choices(KINDS)}, {name: 'outcome', label: t`Outcome`, options: choices(OUTCOMES)},
-  {name: 'from', label: t`From day`, type: 'date'}, {name: 'to', label: t`To day`, type: 'date'}, {name: 'user', label: t`User`}, {name: 'q', label: t`Text in note, key, device or holder`}];
+const FILTERS = [{name: 'account', label: t`Account`}, {name: 'kind', label: t`Act`, options: choices(KINDS), first: true}, {name: 'outcome', label: t`Outcome`, options: choices(OUTCOMES), first: true},
+  {name: 'from', label: t`From day`, type: 'date'}, {name: 'to', label: t`To day`, type: 'date'}, {name: 'user', label: t`User`, first: true}, {name: 'q', label: t`Text in note, key, device or holder`}];
 
 /** Acts with all that may be filtered; `fixed` is asked always. */
 export const acts = (given, fixed = {}) => listing({name: 'acts', given, fixed, filters: FILTERS, columns: () => COLUMNS, row: cells, empty: t`No act fits.`});
 
-export const history = (account, said) => [h('h1', {}, t`History`),
-  h('p', {class: 'lead'}, session.isIssuer ? t`All acts of the registry, the newest first.` : t`The acts that touched your accounts, the newest first.`),
-  acts({account, ...Object.fromEntries(new URLSearchParams(said ?? ''))})];
+/** A few acts without what a list of them is filtered by. */
+export const briefActs = (caption, items) => table(caption, COLUMNS.filter((_, i) => !LONG.includes(i)), items.map((of) => Object.assign(cells(of).filter((_, i) => !LONG.includes(i)), {kind: of.outcome === 'accepted' ? 'accepted' : 'refused'})));
+
+/** All acts, each bundle as one line; or the acts of one bundle. */
+export function history(account, said) {
+  const {bundle, ...given} = Object.fromEntries(new URLSearchParams(said ?? ''));
+  if (bundle) return [h('h1', {}, t`Bundle of entry ${bundle}`), h('p', {}, h('a', {href: '#history'}, t`History`)), acts({account, ...given}, {bundle})];
+  return [h('h1', {}, t`History`), h('p', {class: 'lead'}, session.isIssuer ? t`All acts of the registry, the newest first.` : t`The acts that touched your accounts, the newest first.`), acts({account, ...given}, {folded: 'yes'})];
+}
 
 /** One act with all its ranges. */
 export async function act(id) {
   const of = await asked(`acts/${encodeURIComponent(id)}`);
   const known = [[t`When, UTC`, of.time?.slice(0, 19).replace('T', ' ')], [t`Registry’s date`, of.day], [t`Outcome`, outcome(of)], [t`Document`, paperOf(of)], [t`From`, party(of.giver)], [t`To`, party(of.taker)], [t`Registry`, far(of)],
     [t`Device`, of.device], [t`Holder`, of.holder], ['Wh', of.wh === null ? null : count(of.wh)], [t`Note`, of.note], [t`User`, of.user], [t`Role`, roleName(of.role)], [t`Caller`, of.caller], [t`Key`, of.key], [t`Entry of the log`, of.entry ? count(of.entry) : null],
-    [t`Rows of the table`, of.lines ? `${count(of.rows)}: ${of.lines}` : null],
+    [of.bundle ? t`Lines of the bundle` : t`Rows of the table`, of.lines ? `${count(of.rows)}: ${of.lines}` : null],
+    [t`Bundle`, of.bundle ? h('a', {href: `#history//bundle=${of.bundle}`}, t`line ${count(of.line)} of entry ${count(of.bundle)}`) : null],
     [t`Certificates`, of.count ? count(of.count) : null]].filter(([, value]) => value);
   return [h('h1', {}, t`Act ${of.id}: ${KINDS[of.kind]}`), h('div', {class: 'certificate'}, facts(known)),
     of.ranges.length ? table(t`${count(of.ranges.length)} ranges`, [[t`Certificates`, 'range'], [t`Count`, 'right'], [t`From account`], [t`Account`], [t`Place`]], of.ranges.map((r) =>

@@ -1,19 +1,30 @@
-// A list of the records: filters above, a table that its heads sort, a page of rows at a time, and the whole as CSV.
+// A list of the records: filters above, a table that its heads sort, a page of rows at a time, and the whole as a file.
 
-import {h, table, count, result} from './dom.js';
+import {DAY, h, dayBox, table, count, result} from './dom.js';
 import {t} from './language.js';
-import {asked, pathOf} from './records.js';
+import {asked, pageFrom, pathOf} from './records.js';
 import {problemOf} from './words.js';
 
 const ROWS = 100;
+/** Filters up to which all are shown. */
+const FEW = 4;
 let serial = 0;
 
 /** A field of a filter: a text, a day, a choice of `options` ([value, text] each), or a box to tick. */
 function filterField({name, label, type = 'text', options}, value, onchange) {
-  const id = `l${++serial}`;
+  const id = `l${++serial}`, isTick = type === 'checkbox', words = type === 'date' ? DAY : {type, autocomplete: 'off'};
   const box = options ? h('select', {id, name, onchange}, options.map(([of, text]) => h('option', {value: of, selected: of === (value ?? '')}, text)))
-    : h('input', {id, name, type, value: type === 'checkbox' ? '1' : value ?? '', checked: type === 'checkbox' && value === '1', autocomplete: 'off', onchange});
-  return h('div', {class: type === 'checkbox' ? 'tick' : name === 'q' ? 'text' : null}, type === 'checkbox' ? [box, h('label', {for: id}, label)] : [h('label', {for: id}, label), box]);
+    : h('input', {id, name, ...words, value: isTick ? '1' : value ?? '', checked: isTick && value === '1', onchange});
+  return h('div', {class: isTick ? 'tick' : name === 'q' ? 'text' : null}, isTick ? [box, h('label', {for: id}, label)] : [h('label', {for: id}, label), type === 'date' ? dayBox(box) : box]);
+}
+
+/** The fields: those that a list is looked through by first, and the others folded, unless one of them is set. */
+function filterFields(filters, given, again) {
+  const made = (some) => some.map((filter) => filterField(filter, given[filter.name], again)), isFirst = ({name, first}) => first || name === 'q' || name === 'by';
+  const folded = filters.length > FEW ? filters.filter((of) => !isFirst(of)) : [], shown = filters.filter((of) => !folded.includes(of));
+  const set = folded.filter(({name}) => given[name]).length;
+  return [made(shown), shown.some(({type, options}) => !type && !options) ? h('button', {type: 'submit'}, t`Find`) : null,
+    folded.length ? h('details', {open: set > 0}, h('summary', {}, t`More filters`), h('div', {class: 'folded'}, made(folded))) : null];
 }
 
 /** What a filter's fields say, by name. */
@@ -26,13 +37,12 @@ function valuesOf(form) {
  * [name, class, column that it is sorted by]; `row(item, values)` its cells; `summary(answer, values)` stands above the table.
  * `changed(values)` hears of each new filter.
  */
-export function listing({name, fixed = {}, given = {}, filters = [], columns, row, summary = () => null, caption, empty = t`There is nothing here.`, csv = true, changed = () => null}) {
+export function listing({name, fixed = {}, given = {}, filters = [], columns, row, summary = () => null, caption, empty = t`There is nothing here.`, changed = () => null}) {
   const shown = h('div', {class: 'listed', 'aria-live': 'polite', tabindex: '-1'});
   const pages = [];                            // where each page begun; the last is the one that is shown
   let sort = given.sort, turn = 0;
   const form = h('form', {class: 'filters', role: 'search', novalidate: true, 'aria-label': t`Filters`, onsubmit: (e) => { e.preventDefault(); again(); }},
-    filters.map((filter) => filterField(filter, given[filter.name], () => again())),
-    filters.some(({type, options}) => !type && !options) ? h('button', {type: 'submit'}, t`Find`) : null);
+    filterFields(filters, given, () => again()));
   const values = () => ({...valuesOf(form), ...(sort ? {sort} : {})});
   const again = () => { pages.length = 0; load(null); changed(values()); };
   const load = async (from) => {
@@ -40,7 +50,7 @@ export function listing({name, fixed = {}, given = {}, filters = [], columns, ro
     pages.push(from);
     shown.setAttribute('aria-busy', 'true');
     let made;
-    try { made = drawn(await asked(name, {limit: ROWS, ...fixed, ...said, ...(from === null ? {} : {[name === 'acts' ? 'before' : 'offset']: from})}), said); } catch (fault) { made = [result(problemOf(fault))]; }
+    try { made = drawn(await asked(name, {limit: ROWS, ...fixed, ...said, ...pageFrom(name, from)}), said); } catch (fault) { made = [result(problemOf(fault))]; }
     if (mine !== turn) return;
     shown.removeAttribute('aria-busy');
     const at = shown.contains(document.activeElement) && (document.activeElement.dataset.at ?? '');
@@ -58,7 +68,7 @@ export function listing({name, fixed = {}, given = {}, filters = [], columns, ro
     h('div', {class: 'buttons'},
       pages.length > 1 ? h('button', {type: 'button', 'data-at': 'before', onclick: () => { pages.pop(); load(pages.pop()); }}, t`Page before`) : null,
       answer.next ? h('button', {type: 'button', 'data-at': 'next', onclick: () => load(answer.next)}, t`Next page`) : null,
-      csv && answer.items.length ? csvLink(name, {...fixed, ...said}) : null),
+      answer.items.length ? fileLinks(name, {...fixed, ...said, folded: undefined}) : null),      // a file has each act
   ];
   load(null);
   return [filters.length ? form : null, shown];
@@ -67,5 +77,6 @@ export function listing({name, fixed = {}, given = {}, filters = [], columns, ro
 /** By what the answer stands. */
 export const stands = ({stands: {today, time, entry}}) => t`By the registry’s date ${today}, entry ${count(entry)}`;
 
-/** A link that saves a whole list for a spreadsheet. */
-export const csvLink = (name, parameters) => h('a', {class: 'button', href: pathOf(name, {...parameters, format: 'csv'}), download: `${name}.csv`}, t`Save as CSV`);
+/** Links that save a whole list for a spreadsheet: as CSV with the mark by which Excel knows UTF-8, and as a workbook. */
+export const fileLinks = (name, parameters) => [['csv-bom', 'csv', t`Save as CSV`], ['xlsx', 'xlsx', t`Save as XLSX`]].map(([format, ending, text]) =>
+  h('a', {class: 'button', href: pathOf(name, {...parameters, format}), download: `${name}.${ending}`}, text));

@@ -5,7 +5,7 @@ import {t} from './language.js';
 import {Unread, last, pause} from './registry.js';
 import * as words from './words.js';
 
-export const records = {isThere: false};
+export const records = {isThere: false, hasDirectory: false, hasAttachments: false};
 
 /** The address of a list; parameters without a value are left out. */
 export function pathOf(name, parameters = {}) {
@@ -15,9 +15,17 @@ export function pathOf(name, parameters = {}) {
 
 /** Finds out whether the service is there. */
 export async function findRecords() {
-  try { records.isThere = (await fetch(pathOf('status'), {cache: 'no-store', signal: AbortSignal.timeout(20_000)})).ok; } catch { records.isThere = false; }
+  try {
+    const answer = await fetch(pathOf('status'), {cache: 'no-store', signal: AbortSignal.timeout(20_000)});
+    records.isThere = answer.ok;
+    const said = answer.ok ? await answer.json() : {};
+    records.hasDirectory = said.directory === true;
+    records.hasAttachments = said.attachments === true;
+  } catch { records.isThere = false; }
 }
 
+/** Seconds: a wait of the front door, which passes. One that is longer the records have told. */
+const SHORT_WAIT = 10;
 /** Questions that the front door lets a user ask at once. */
 const AT_ONCE = 2;
 const turns = [];                               // those that wait for one before them to be answered
@@ -39,9 +47,25 @@ export async function asked(name, parameters, tries = 30) {
   let answer, found;
   try { [answer, found] = await inTurn(ask); } catch { throw new Unread(words.unread(0)); }
   if (answer.ok) return found;
-  if (answer.status === 429 && tries > 1) {
+  if (answer.status === 429 && Number(answer.headers.get('Retry-After') ?? 0) <= SHORT_WAIT && tries > 1) {
     await pause(1000);
     return asked(name, parameters, tries - 1);
+  }
+  throw new Unread(await problemOf(answer));
+}
+
+/** What the records say of a table that is not sent yet. */
+export async function askedOf(name, table, parameters, kind = 'text/csv', tries = 30) {
+  const ask = async () => {
+    const answer = await fetch(pathOf(name, parameters), {method: 'POST', body: table, headers: {'Content-Type': kind}, cache: 'no-store'});
+    return [answer, answer.ok ? await answer.json() : null];
+  };
+  let answer, found;
+  try { [answer, found] = await inTurn(ask); } catch { throw new Unread(words.unread(0)); }
+  if (answer.ok) return found;
+  if (answer.status === 429 && Number(answer.headers.get('Retry-After') ?? 0) <= SHORT_WAIT && tries > 1) {
+    await pause(1000);
+    return askedOf(name, table, parameters, kind, tries - 1);
   }
   throw new Unread(await problemOf(answer));
 }
@@ -55,17 +79,21 @@ async function problemOf(answer) {
   const said = await answer.json().then((value) => value.error, () => null);
   if (answer.status === 503 && said && !/^the records/.test(said)) return {good: false, title: t`The records are busy`, sentence: `${said[0].toUpperCase()}${said.slice(1)}.`};
   if (answer.status === 503 || answer.status === 502) return {good: false, title: t`The records are not there`, sentence: t`They are being made, or do not answer. The registry itself is not touched by this. Try again in a minute.`};
-  return {...words.unread(answer.status), ...(said ? {sentence: `${said[0].toUpperCase()}${said.slice(1)}.`} : {})};
+  return {...words.unread(answer.status), status: answer.status, ...(said ? {sentence: `${said[0].toUpperCase()}${said.slice(1)}.`} : {})};
 }
 
 const PAGE = 1000;
 /** By what holdings are told, and the sum that says how many of them there are. */
 const IN_ALL = {lot: 'lots', run: 'runs'};
+/** The parameter that takes the `next` of a page: sums count rows, acts their ids, and other lists go on behind a row. */
+const GOES_ON = {acts: 'before', holdings: 'offset', deadlines: 'offset', statistics: 'offset', undeclared: 'offset', directory: 'offset', attachments: 'offset'};
+/** What asks for the page that begins there; the first one where `next` is none. */
+export const pageFrom = (name, next) => next === null ? {} : {[GOES_ON[name] ?? 'after']: next};
 
 /** Every item of a list. Where the first page tells how many there are, the others are asked for side by side, else one after another. */
 export async function everyItem(name, parameters) {
-  const pageAt = (offset) => asked(name, {...parameters, limit: PAGE, offset});
-  const pages = [await pageAt(0)], all = pages[0].sum?.[IN_ALL[parameters?.by]];
+  const pageAt = (next) => asked(name, {...parameters, limit: PAGE, ...pageFrom(name, next)});
+  const pages = [await pageAt(null)], all = pages[0].sum?.[IN_ALL[parameters?.by]];
   if (all !== undefined) pages.push(...await Promise.all(Array.from({length: Math.max(0, Math.ceil(all / PAGE) - 1)}, (_, i) => pageAt((i + 1) * PAGE))));
   else while (pages.at(-1).next) pages.push(await pageAt(pages.at(-1).next));
   return pages.flatMap(({items}) => items);
@@ -91,11 +119,14 @@ export const holderOf = (account) => once(`account/${account}`, async () => {
   return found?.holder ? `${found.holder}, ${found.name}` : '';
 });
 
+/** Says whose an account is, once that is known. */
+export const nameAccount = (account, text) => names.set(`account/${account}`, text);
+
 /** The site of a device. */
 export const siteOf = (device) => once(`device/${device}`, async () => (await asked('devices', {device})).items[0]?.site ?? '');
 
 /** The name of a holder. */
-export const nameOf = (holder) => once(`holder/${holder}`, async () => (await everyItem('holders')).find(({code}) => code === holder)?.name ?? '');
+export const nameOf = (holder) => once(`holder/${holder}`, async () => (await asked('holders', {holder})).items[0]?.name ?? '');
 
 /** Forgets the names, as one may have been opened since. */
 export const forgetNames = () => names.clear();

@@ -17,9 +17,9 @@ const ACCOUNT = ['account', 'holder', 'status', ...PLACES];
 const TITLES = {held: 'Held', cancelled: 'Cancelled', expired: 'Expired', withdrawn: 'Withdrawn', exported: 'Exported'};
 const HOLDING = ['first', 'last', 'count', 'device', 'country', 'site', 'tech', 'source', 'capacity_w', 'commissioned', 'support', 'first_day', 'last_day', 'issued_on', 'carrier'];
 
-export async function account(chosen) {
-  if (records.isThere && chosen === undefined) {
-    return [h('h1', {}, session.isIssuer ? 'Accounts' : 'Your accounts'), await notice(), session.isIssuer ? statementAsk() : null, ownAccounts(), session.isIssuer ? null : closing()];
+export async function account(chosen, said) {
+  if (records.isThere && !chosen) {
+    return [h('h1', {}, session.isIssuer ? 'Accounts' : 'Your accounts'), await notice(), session.isIssuer ? statementAsk() : null, ownAccounts(said), session.isIssuer ? null : closing()];
   }
   const {accounts} = memory.get();
   const known = Object.keys(accounts);

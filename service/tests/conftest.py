@@ -22,12 +22,20 @@ hypothesis.settings.register_profile('goo', database=None, deadline=None, print_
 hypothesis.settings.load_profile('goo')
 
 
+collect_ignore = [] if os.environ.get('GOO_ON_HOST') else ['hosts']
+"""Those tests are for a host of their own, where tools/lib/hosts.py runs them."""
+
+
 def pytest_addoption(parser: pytest.Parser) -> None:
     parser.addoption('--slow', action='store_true', help='runs the tests of minutes too')
+    parser.addoption('--seed', type=int, default=1, help='of requests by chance')
+    parser.addoption('--acts', type=int, default=1200, help='how many requests by chance')
+    parser.addoption('--pictures', metavar='FOLDER', help='keeps pictures of the page there')
 
 
 def pytest_configure(config: pytest.Config) -> None:
     config.addinivalue_line('markers', 'slow: takes a minute and more')
+    config.addinivalue_line('markers', 'thorough: of the page, and left out by --quick')
 
 
 def pytest_collection_modifyitems(config: pytest.Config, items: list[pytest.Item]) -> None:

@@ -103,7 +103,9 @@ class Description:
         if kind not in content and kind.split(';')[0] not in content:
             return f'{status}: {kind} is not described'
         schema = content.get(kind, content.get(kind.split(';')[0]))['schema']
-        value = json.loads(body) if kind.startswith('application/json') else body.decode()
+        is_binary = kind.startswith('application/vnd.')
+        value = (json.loads(body) if kind.startswith('application/json')
+                 else body.decode(errors='replace' if is_binary else 'strict'))
         whole = {'components': self.whole['components'], **schema}
         found = next(jsonschema.Draft202012Validator(whole).iter_errors(value), None)
         return found and f'{status}: {"/".join(map(str, found.absolute_path))}: {found.message}'

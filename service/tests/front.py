@@ -1,6 +1,7 @@
 """Requests to a front door for its tests: from an address, as a user, beside others, and what may
 stand behind it in the place of the log or of the records.
 """
+import contextlib
 import email.message
 import json
 import os
@@ -158,7 +159,8 @@ class Standin:
                 left -= len(near.recv(65536))
             self.heads.append(head)
             self.may_answer.wait(60)
-            near.sendall(self.answer)
+            with contextlib.suppress(BrokenPipeError):      # nginx has given it up
+                near.sendall(self.answer)
 
 
 def answer_of(status: str, *fields: str, body: bytes = b'{}\n') -> bytes:

@@ -1,8 +1,8 @@
 """A host of a trial's own for what root does on it: mounts, users and a network that go with it.
 
-/etc, /usr and /var are copies that are written nowhere else, /run is empty. The package's files lie where
-the package puts them. systemd does not run: /usr/bin/systemctl notes what it is told and which units
-are active. /usr/bin/goo is a stand-in that notes each time it opens the file.
+/etc, /usr and /var are copies that are written nowhere else, /run is empty. The package's files lie
+where the package puts them. systemd does not run: /usr/bin/systemctl notes what it is told and
+which units are active. /usr/bin/goo is a stand-in that notes each time it opens the file.
 """
 import base64
 import ctypes
@@ -18,8 +18,9 @@ from typing import Any
 
 TOP = Path(__file__).resolve().parents[2]
 USERS = ('goo', 'goo-agent', 'goo-door', 'goo-replica', 'goo-etcd', 'goo-records', 'www-data')
-FOLDERS = {'/var/lib/goo': 'goo', '/var/lib/goo-exchange': 'goo-agent', '/var/lib/goo-etcd': 'goo-etcd',
-           '/var/lib/goo-replica': 'goo-replica', '/var/lib/goo-records': 'goo-records'}
+FOLDERS = {'/var/lib/goo': 'goo', '/var/lib/goo-exchange': 'goo-agent',
+           '/var/lib/goo-etcd': 'goo-etcd', '/var/lib/goo-replica': 'goo-replica',
+           '/var/lib/goo-records': 'goo-records'}
 """The folders that a service owns."""
 SETUP = r'''
 mount --make-rprivate /
@@ -30,15 +31,18 @@ for name in etc usr var; do
 done
 mount -t tmpfs -o mode=755 tmpfs /run
 rm -rf /var/lib/goo* /etc/goo /usr/lib/goo /var/backups/goo
-mkdir -p /run/systemd/system /run/stage/active /run/goo /usr/lib/goo /usr/share/goo/etc /var/backups/goo
+mkdir -p /run/systemd/system /run/stage/active /run/goo
+mkdir -p /usr/lib/goo /usr/share/goo/etc /var/backups/goo
 cp "$2"/service/etc/sysusers/*.conf /usr/lib/sysusers.d/
 cp "$2"/service/etc/tmpfiles/*.conf /usr/lib/tmpfiles.d/
 systemd-sysusers goo.conf goo-replica.conf goo-records.conf 2> /dev/null
 systemd-tmpfiles --create goo.conf
 cp -a "$2"/service/libexec/* /usr/lib/goo/
 cp -a "$2"/service/etc/systemd/* /usr/lib/systemd/system/
-python3 -c 'import sys; sys.path.insert(0, sys.argv[1] + "/tools/lib"); import pathlib, service_commands; service_commands.install(pathlib.Path(sys.argv[1], "service"), pathlib.Path("/"))' "$2"
-cp -a "$2"/service/etc/drop-ins "$2"/service/etc/etcd "$2"/service/etc/nginx "$2"/service/etc/exchange.conf /usr/share/goo/etc/
+PYTHONPATH="$2/tools/lib" python3 -B -c 'import pathlib, service_commands, sys
+service_commands.install(pathlib.Path(sys.argv[1], "service"), pathlib.Path("/"))' "$2"
+cd "$2/service/etc"
+cp -a drop-ins etcd nginx exchange.conf /usr/share/goo/etc/
 ip link set lo up
 echo ready
 exec sleep infinity
@@ -54,10 +58,13 @@ for unit in "${words[@]:1}"; do
     active=/run/stage/active/$unit
     case $verb in
         is-active) [ -e "$active" ] && echo active || { echo inactive; status=3; } ;;
-        is-enabled) [ -e "/run/stage/enabled-$unit" ] && echo enabled || { echo disabled; status=1; } ;;
+        is-enabled)
+            [ -e "/run/stage/enabled-$unit" ] && echo enabled || { echo disabled; status=1; } ;;
         enable) touch "/run/stage/enabled-$unit"; case "$*" in *--now*) touch "$active" ;; esac ;;
         start | restart)
-            [ ! -e "/run/stage/refuses-$unit" ] || { echo "$unit: refused" >&2; status=1; continue; }
+            if [ -e "/run/stage/refuses-$unit" ]; then
+                echo "$unit: refused" >&2; status=1; continue
+            fi
             if [ "$unit" = goo.service ] && [ ! -e "$active" ]; then
                 goo --version > /run/goo/version
                 rm -f /run/stage/crashed
@@ -68,7 +75,8 @@ for unit in "${words[@]:1}"; do
         stop)
             if [ "$unit" = goo.service ] && [ -e "$active" ]; then
                 line=$(sed -n 's/^ExecStopPost=//p' /usr/lib/systemd/system/goo.service)
-                SERVICE_RESULT=success EXIT_CODE=killed EXIT_STATUS=TERM setpriv --reuid=goo --regid=goo --clear-groups $line
+                SERVICE_RESULT=success EXIT_CODE=killed EXIT_STATUS=TERM \
+                    setpriv --reuid=goo --regid=goo --clear-groups $line
             fi
             rm -f "$active" ;;
         show) cat "/run/stage/restarts-$unit" 2> /dev/null || echo 0 ;;
@@ -107,7 +115,9 @@ def why():
              for line in path.read_bytes().splitlines()]
     end = store.after(entries.read_entry(lines[-1]), lines[-1]).version if lines else ''
     here = pathlib.Path('/run/goo/version').read_text().strip()
-    return '' if not lines or end == here else f'the log is at version {end}, and the program here is {here}'
+    if not lines or end == here:
+        return ''
+    return f'the log is at version {end}, and the program here is {here}'
 
 class Handler(http.server.BaseHTTPRequestHandler):
     def do_GET(self):
@@ -127,6 +137,10 @@ class Server(socketserver.ThreadingMixIn, socketserver.UnixStreamServer):
 pathlib.Path('/run/stage/door.pid').write_text(str(os.getpid()))
 Server('/run/goo/door.sock', Handler).serve_forever()
 '''
+
+
+AROUND = {'PATH': '/usr/local/sbin:/usr/local/bin:/usr/sbin:/usr/bin:/sbin:/bin',
+          'PYTHONDONTWRITEBYTECODE': '1'}
 
 
 @dataclass
@@ -150,12 +164,15 @@ class Stage:
     def __enter__(self) -> 'Stage':
         self.folder.chmod(0o755)
         words = ['setpriv', '--pdeathsig=KILL', 'unshare', '--mount', '--net', '--pid', '--fork',
-                 '--kill-child', '--mount-proc', 'bash', '-ec', SETUP, 'bash', str(self.folder), str(self.top)]
-        self.process = subprocess.Popen(words, stdin=subprocess.DEVNULL, stdout=subprocess.PIPE, text=True)
+                 '--kill-child', '--mount-proc', 'bash', '-ec', SETUP, 'bash', str(self.folder),
+                 str(self.top)]
+        self.process = subprocess.Popen(words, stdin=subprocess.DEVNULL, stdout=subprocess.PIPE,
+                                        text=True)
         assert self.process.stdout
         if self.process.stdout.readline() != 'ready\n':
             raise OSError('no host of its own can be made')
-        children = Path(f'/proc/{self.process.pid}/task/{self.process.pid}/children').read_text().split()
+        number = self.process.pid
+        children = Path(f'/proc/{number}/task/{number}/children').read_text().split()
         self.inside = ['nsenter', f'--target={children[0]}', '--mount', '--net', '--pid', '--']
         self.root = Path(f'/proc/{children[0]}/root')
         self.put('/usr/bin/systemctl', SYSTEMCTL, 0o755)
@@ -172,15 +189,15 @@ class Stage:
     def put(self, path: str, text: str, mode: int = 0o644) -> None:
         """A file of root's on the stage."""
         packed = base64.b64encode(text.encode()).decode()
-        self.run('sh', '-ec', 'mkdir -p "${1%/*}"; rm -f "$1"; echo "$2" | base64 -d > "$1"; chmod "$3" "$1"',
-                 'sh', path, packed, f'{mode:o}')
+        text = 'mkdir -p "${1%/*}"; rm -f "$1"; echo "$2" | base64 -d > "$1"; chmod "$3" "$1"'
+        self.run('sh', '-ec', text, 'sh', path, packed, f'{mode:o}')
 
     def run(self, *words: object, seconds: float = 60, **more: Any) -> Done:
         """A command as root."""
-        done = subprocess.run([*self.inside, *map(str, words)], capture_output=True, timeout=seconds,
-                              env={'PATH': '/usr/local/sbin:/usr/local/bin:/usr/sbin:/usr/bin:/sbin:/bin',
-                                   'PYTHONDONTWRITEBYTECODE': '1'}, check=False, cwd='/', **more)
-        return Done(done.returncode, done.stdout.decode(errors='replace'), done.stderr.decode(errors='replace'))
+        done = subprocess.run([*self.inside, *map(str, words)], capture_output=True,
+                              timeout=seconds, env=AROUND, check=False, cwd='/', **more)
+        return Done(done.returncode, *(said.decode(errors='replace')
+                                       for said in (done.stdout, done.stderr)))
 
     def begin(self, *words: object) -> subprocess.Popen[bytes]:
         """A command that goes on."""
@@ -230,7 +247,8 @@ class Canary:
     FILE, FOLDER = '/run/canary/file', '/run/canary/folder'
 
     def __init__(self, stage: Stage) -> None:
-        stage.shell('rm -rf /run/canary; mkdir -p /run/canary/folder; chmod 700 /run/canary/folder; '
+        stage.shell('rm -rf /run/canary; mkdir -p /run/canary/folder; '
+                    'chmod 700 /run/canary/folder; '
                     'umask 077; echo SECRET > /run/canary/file')
         self.libc = ctypes.CDLL(None, use_errno=True)
         self.queue = self.libc.inotify_init1(os.O_NONBLOCK)

@@ -8,9 +8,9 @@ paths and ports changed. Several houses may stand side by side.
         country = house.make_country()
         answer = house.ask('anna', 'GET', f'/v1/accounts/{country.sun}/statement')
 
-A part is one of 'nginx', 'log', 'registry', 'records' (which makes the book), 'web' (which answers
-from the book) and 'verify' (which checks documents by it). Nothing starts a part anew that has
-ended: a trial does, by `start`.
+A part is one of 'nginx', 'log', 'registry', 'rehearsal' (which tries bundles for the log),
+'records' (which makes the book), 'web' (which answers from the book) and 'verify' (which checks
+documents by it). Nothing starts a part anew that has ended: a trial does, by `start`.
 """
 import datetime
 import functools
@@ -44,8 +44,12 @@ CODE = 7
 DAY = '2025-03-01'
 ISSUER = 'ISSUER'
 MORE_USERS = ('audit ISSUER reads', 'meter ISSUER declares')
-PARTS = ('registry', 'log', 'records', 'web', 'verify', 'nginx')
+PARTS = ('registry', 'rehearsal', 'log', 'records', 'web', 'verify', 'nginx')
 """In the order in which they are started."""
+BODY, BODY_ADDRESS = 'Umweltamt Beispielstadt', 'Wörlitzer Platz 1, 06844 Dessau'
+"""The issuing body, as its documents name it."""
+ALWAYS = ('registry', 'rehearsal', 'log')
+"""Those that each house has."""
 RATE = 1000
 """Requests a second by the limits of the front door, unless a house has them as shipped."""
 
@@ -178,9 +182,9 @@ class House:
         self.parts: dict[str, Part] = {}
         try:
             self.lay()
-            for name in ('registry', 'log'):
+            for name in ALWAYS:
                 self.parts[name].start()
-            others = [self.parts[name] for name in self.begun if name not in ('registry', 'log')]
+            others = [self.parts[name] for name in self.begun if name not in ALWAYS]
             for part in others:
                 part.launch()
             for part in others:
@@ -220,6 +224,8 @@ class House:
             self.door.exchange.mkdir()
             self.door.lay_nginx()
             self.port, self.plain = self.door.port, self.door.plain
+            own = f'name = {BODY}\naddress = {BODY_ADDRESS}\nsite = https://localhost:{self.port}\n'
+            (self.door.etc / 'body.conf').write_text(f'[body]\n{own}', encoding='utf-8')
         for name in ('desk.sock', 'sign-in.sock'):
             (self.folder / name).unlink(missing_ok=True)
 
@@ -230,6 +236,7 @@ class House:
         listen = ['--listen', str(door), '--store', str(self.state / 'log'), '--name', 'house']
         self.add('registry', lambda: self.unit('goo.service'),
                  lambda _: client.is_open(self.registry_port))
+        self.add_rehearsal()
         self.add('log', lambda: [*self.unit('goo-replica.service'), *listen], self.log_takes)
         self.add('records', lambda: [*self.unit('goo-records.service'), *begun], self.is_made)
         self.add_web('web')
@@ -238,13 +245,23 @@ class House:
                  lambda _: client.is_open(self.port))
         self.parts['nginx'].before = self.lay_door
 
+    def add_rehearsal(self) -> None:
+        """The socket of the unit, which starts a rehearsal for each connection."""
+        path = self.folder / 'rehearsal.sock'
+        begin = ['systemd-socket-activate', '--accept', '--inetd', '--listen', str(path)]
+        self.add('rehearsal',
+                 lambda: [*begin, *self.unit('goo-rehearsal@.service'), '--into', str(self.folder)],
+                 lambda _: path.exists())
+        self.parts['rehearsal'].before = lambda: path.unlink(missing_ok=True)
+
     def add_web(self, name: str) -> None:
         """A part that answers from the book, at a socket of its own."""
         unit, path = f'goo-records-{name}.service', self.folder / f'{name}.sock'
         self.add(name, lambda: [*self.unit(unit), '--bind', f'unix:{path}'],
                  lambda _: client.is_open(path),
                  PYTHONPATH=str(self.service), GOO_RECORDS=str(self.book),
-                 GOO_EXCHANGE=str(self.book / 'exchange.json'))
+                 GOO_EXCHANGE=str(self.book / 'exchange.json'),
+                 GOO_ETC=str(self.folder / 'etc'))
 
     def add(self, name: str, words: Any, is_there: Any, **environment: str) -> None:
         self.parts[name] = Part(name, words, is_there, self.folder, self.guard, environment)

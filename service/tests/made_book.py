@@ -19,6 +19,7 @@ from goo_service.log.archive import Archive
 from goo_service.records import schema
 from goo_service.records import web
 from goo_service.records.book import Book
+from goo_service.records.parameters import page_parameter
 from goo_service.records.registry import WatchedRegistry
 from model import CODES
 from model import Model
@@ -30,6 +31,7 @@ BEGINNING = f'--begun {CODE} {DAY} 1'
 OWN = CODE * 10 ** 12
 HEADER = b'key,device,first_day,last_day,gross_wh,aux_wh\n'
 BAD, FORBIDDEN, CONFLICT = 400, 403, 409
+BUNDLES = '/v1/bundles'
 
 
 def status_of(outcome: bytes) -> int:
@@ -83,6 +85,17 @@ class Made:
         whole = {'command': command, 'key': key or f'k{self.keys}', **members}
         return self.send_body(caller, json.dumps(whole, ensure_ascii=False).encode())
 
+    def send_bundle(self, caller: str, requests: list[dict[str, Any]], route: str = BUNDLES,
+                    status: int = 200, answer: bytes = b'') -> list[dict[str, Any]]:
+        """A bundle, each line by itself, or one that was answered so; what its lines came to."""
+        lines = [json.dumps(of, ensure_ascii=False).encode() for of in requests]
+        answers = [] if answer else [self.model.line(b'%b %b' % (caller.encode(), line))
+                                     for line in lines]
+        told = answer or b''.join(b'%b\n' % one.strip() for one in answers)
+        self.take(self.record(caller, route, b''.join(b'%b\n' % line for line in lines), status,
+                              told))
+        return [json.loads(one) for one in answers]
+
     def must(self, caller: str, command: str, **members: Any) -> dict[str, Any]:
         """The reply to a request that has to be accepted."""
         told = self.send(caller, command, **members)
@@ -127,7 +140,9 @@ class Made:
     def client(self) -> Any:
         """Flask's client of the service over this book."""
         self.book().close()
-        return web.application(self.folder, self.folder / 'state.json').test_client()
+        return web.application(self.folder, self.folder / 'state.json',
+                               etc=self.folder / 'etc',
+                               attachments=self.folder / 'attachments').test_client()
 
     def asked(self, caller: str | None, path: str, **parameters: object) -> tuple[int, Any]:
         """Status and JSON of an answer."""
@@ -146,7 +161,7 @@ class Made:
             found += answer['items']
             if answer['next'] is None:
                 return found
-            more['before' if name == 'acts' else 'offset'] = answer['next']
+            more[page_parameter(name)] = answer['next']
 
     def acts(self, caller: str = ISSUER, **parameters: object) -> list[dict[str, Any]]:
         """The acts that a caller sees, the newest first."""
@@ -184,18 +199,23 @@ class Logged(Made):
 
 
 def rows_of_book(path: Path) -> list[tuple[Any, ...]]:
-    """The rows of all tables of a book, and which acts have which letters by its index of texts."""
+    """The rows of all tables of a book, and which acts have which letters by its indexes of
+    texts."""
     database = schema.connect(path, read_only=True)
-    database.execute('CREATE VIRTUAL TABLE temp.instances USING fts5vocab (main, word, instance)')
     names = [name for name, in database.execute(TABLES)]
     found = [(name, *row) for name in names for row in database.execute(f'SELECT * FROM {name}')]
-    found += map(tuple, database.execute('SELECT term, doc FROM instances ORDER BY term, doc'))
+    for index in ('word', 'name'):
+        database.execute(f'CREATE VIRTUAL TABLE temp.of_{index} '
+                         f'USING fts5vocab (main, {index}, instance)')
+        found += map(tuple, database.execute(f'SELECT term, doc FROM of_{index} '
+                                             'ORDER BY term, doc'))
     database.close()
     return found
 
 
 TABLES = """SELECT name FROM main.sqlite_master WHERE type = 'table' AND name NOT LIKE 'word%'
-            AND name NOT LIKE 'passed_%' AND name <> 'letters' ORDER BY name"""
+            AND name NOT LIKE 'name%' AND name NOT LIKE 'passed_%' AND name <> 'letters'
+            ORDER BY name"""
 """Those that are the same however a book came to its rows."""
 DEVICE = '500000000000000012'
 PLANT = {'device': DEVICE, 'account': 1, 'country': 'DE', 'site': 'North', 'tech': 'T010000',

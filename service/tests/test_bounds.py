@@ -5,10 +5,12 @@ import io
 import json
 import random
 import time
+from pathlib import Path
 
 import pytest
 
 from goo_service.log import bounds
+from goo_service.log.closed import closed_in
 
 TODAY = datetime.date(2026, 3, 1)
 HEADER = b'key,device,first_day,last_day,gross_wh,aux_wh\n'
@@ -26,7 +28,7 @@ def status_of(found: bounds.Refusal | None) -> int | None:
 
 
 def refused(caller: str, body: bytes, confirmed: str = '') -> int | None:
-    return status_of(bounds.of_request(caller, body, TODAY, confirmed))
+    return status_of(bounds.of_request(caller, body, bounds.Host(TODAY, confirmed)))
 
 
 # ------------------------------------------------------------------ tables
@@ -107,24 +109,45 @@ def test_a_move_past_the_host_s_day_is_confirmed(day: str, confirmed: str,
 ])
 def test_no_spelling_of_such_a_move_goes_by(body: bytes) -> None:
     """The registry reads JSON as docs/FORMATS.md says: the last of two members counts."""
-    found = bounds.of_request('ISSUER', body, TODAY, '')
+    found = bounds.of_request('ISSUER', body, bounds.Host(TODAY))
     assert status_of(found) == 403
     assert found and '2036-01-01' in found.error and '2026-03-01' in found.error
 
 
+@pytest.mark.parametrize(('body', 'status'), [
+    (b'{"command":"import","notice":{"sender":8}}', 403),
+    (b'{"notice":{"sender":9,"sender":8},"command":"import"}', 403),
+    (b'{"command":"import","notice":{"sender":80}}', None),
+    (b'{"command":"import","notice":{"sender":[8]}}', None),
+    (b'{"command":"import","notice":8}', None),
+    (b'{"command":"add_peer","peer":8}', None)])
+def test_a_closed_registry_sends_nothing_more(tmp_path: Path, body: bytes,
+                                              status: int | None) -> None:
+    path = tmp_path / 'closed-registries'
+    host = bounds.Host(TODAY, '', closed_in(path))
+    assert bounds.of_request('ISSUER', body, host) is None
+    path.write_text('08 Registry of before, since 2025-03-01\n\n# none\n')
+    host = bounds.Host(TODAY, '', closed_in(path))
+    found = bounds.of_request('ISSUER', body, host)
+    assert status_of(found) == status and (not found or 'registry 8 is closed' in found.error)
+
+
 # ------------------------------------------------------------------ a holder's day
 
-@pytest.mark.parametrize(('caller', 'sent', 'size', 'status'), [
-    ('SUN', 0, 33_554_432, None), ('SUN', 33_554_431, 1, None), ('SUN', 33_554_432, 1, 429),
-    ('SUN', 33_554_000, 1_000, 429), ('ISSUER', 99_999_999, 1_000_000, None),
+@pytest.mark.parametrize(('caller', 'sent', 'by_user', 'size', 'most'), [
+    ('SUN', 67_108_863, 0, 1, None), ('SUN', 67_108_864, 0, 1, 67_108_864),
+    ('SUN', 67_108_000, 0, 1_000, 67_108_864), ('SUN', 0, 16_777_215, 1, None),
+    ('SUN', 16_777_216, 16_777_216, 1, 16_777_216), ('ISSUER', 99_999_999, 99_999_999, 9, None),
 ])
-def test_the_bytes_of_a_holder_in_a_day(caller: str, sent: int, size: int,
-                                        status: int | None) -> None:
-    found = bounds.of_day(caller, sent, size, datetime.datetime(2026, 3, 1, 22, 58, 59))
-    assert status_of(found) == status
+def test_the_bytes_of_a_holder_and_of_a_user_in_a_day(caller: str, sent: int, by_user: int,
+                                                      size: int, most: int | None) -> None:
+    """Whoever has used up his own bytes leaves three quarters of them to his colleagues."""
+    evening = datetime.datetime(2026, 3, 1, 22, 58, 59)
+    found = bounds.of_day(caller, sent, by_user, size, evening)
+    assert status_of(found) == (429 if most else None)
     if found:
         assert found.fields == {'Retry-After': '3661'}
-        assert caller in found.error and '33554432' in found.error
+        assert caller in found.error and f'at most {most} bytes' in found.error
 
 
 def test_a_day_is_over_in_a_second_at_least() -> None:

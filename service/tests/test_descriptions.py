@@ -5,7 +5,10 @@ from pathlib import Path
 from typing import Any
 
 import pytest
+from goo_service.records import feed
 from goo_service.records import parameters
+from goo_service.records.attachments import Attachments
+from goo_service.records.attachments import Content
 from described import Description
 from described import Operation
 from hypothesis import HealthCheck
@@ -21,8 +24,15 @@ RECORDS = Description('records.yaml')
 OPERATIONS = pytest.mark.parametrize('operation', RECORDS.operations,
                                      ids=[of.name for of in RECORDS.operations])
 CALLERS = strategies.sampled_from([ISSUER, 'SUN', 'VOLT', 'STRANGER'])
-THERE = {'account': '1', 'count': '3', 'numbers': '1', 'number': '1'}
+THERE = {'account': '1', 'holder': 'SUN', 'count': '3', 'numbers': '1', 'number': '1'}
 """Parameters that an operation needs, of what is there."""
+TABLES = {'doubts': HEADER + b'k1,%b,2026-07-01,2026-07-31,5,0\n' % DEVICE.encode()}
+"""What an operation is sent that takes a table."""
+PUBLIC = '''-----BEGIN PUBLIC KEY-----
+MCowBQYDK2VwAyEAGb9ECWmEzf6FQbrBZ9w7lshQhqowtrbLDFw4rXAxZuE=
+-----END PUBLIC KEY-----
+'''
+"""That of RFC 8410, section 10.1."""
 QUICK = settings(max_examples=40, derandomize=True, suppress_health_check=list(HealthCheck))
 
 
@@ -48,7 +58,14 @@ def fill(made: Made) -> None:
     made.take(made.record('SUN', '/v1/requests', odd, 500, b'Set aside\n'))
     made.take(made.record('VOLT', '/v1/requests', b'{"command":"transfer","giver":0,"taker":99}',
                           403, b'Forbidden\n', role='reads'))
+    spans = [{'first': f'{first[1] + at:014}', 'last': f'{first[1] + at:014}'} for at in (40, 41)]
+    made.send_bundle('SUN', [{'command': 'transfer', 'key': f'b{at}', 'giver': 1, 'taker': 2, **of}
+                             for at, of in enumerate(spans)])
     made.must(ISSUER, 'advance', day='2026-08-01')
+    (made.folder / 'etc').mkdir()
+    (made.folder / 'etc/documents.pub').write_text(PUBLIC)
+    old = Content('SUN', 'statement.pdf', 'of the registry before', b'%PDF-1.7')
+    Attachments(made.folder / 'attachments').add([old], None)
 
 
 @pytest.fixture(scope='module')
@@ -82,11 +99,14 @@ def test_each_route_is_described_with_its_parameters() -> None:
 
 @OPERATIONS
 def test_answers_are_as_they_are_described(made: Made, known: dict[str, list[str]],
-                                           operation: Operation) -> None:
+                                           operation: Operation,
+                                           monkeypatch: pytest.MonkeyPatch) -> None:
+    monkeypatch.setattr(feed, 'moved_on', lambda *_: False)         # nobody waits for the next act
     client = made.client()
 
     def ask(path: str, query: dict[str, str], caller: str) -> int:
-        answer = client.get(path, query_string=query, headers={'GOO-Caller': caller})
+        answer = client.open(path, method=operation.method.upper(), query_string=query,
+                             headers={'GOO-Caller': caller}, data=TABLES.get(operation.name))
         kind, body = answer.headers['Content-Type'], answer.get_data()
         answer.close()
         assert RECORDS.fault(operation, answer.status_code, kind, body) is None
@@ -101,13 +121,14 @@ def test_answers_are_as_they_are_described(made: Made, known: dict[str, list[str
 
     there = {**THERE, 'code': known['code'][0]}
     needed = {name: there[name] for name, one in RECORDS.parameters(operation, 'query').items()
-              if one.get('required')}
+              if one.get('required') or name == 'holder'}
     number = '7000000000001' if operation.name == 'certificate' else '1'
     assert ask(operation.path.format(number=number), needed, ISSUER) == 200
     ask_anything()
 
 
-LISTS = [of for of in RECORDS.operations if 'format' in RECORDS.parameters(of, 'query')]
+LISTS = [of for of in RECORDS.operations if 'limit' in RECORDS.parameters(of, 'query')
+         or of.name == 'choose']
 
 
 @pytest.mark.parametrize('operation', LISTS, ids=[of.name for of in LISTS])

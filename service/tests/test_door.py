@@ -139,7 +139,7 @@ def test_too_often(limit: str) -> None:
         got = [ask(place, 'GET', path, user) for _ in range(4)]
     over = [answer for answer in got if answer.status == 429]
     assert len(over) == 2 and got[0].status != 429
-    assert all(answer.error() and answer.head.get_all('Retry-After') == ['6'] for answer in over)
+    assert all(answer.error() and answer.head.get_all('Retry-After') == ['10'] for answer in over)
 
 
 def test_wait_that_the_log_asks_for_is_told_once() -> None:
@@ -273,7 +273,7 @@ def test_wrong_passwords_have_a_limit_of_their_own() -> None:
             for user in ('anna', 'anna', 'nobody', 'nobody', 'anna')
         ]
         assert [answer.status for answer in got] == [401, 401, 401, 429, 429]
-        assert [answer.head['Retry-After'] for answer in got] == [None, None, None, '6', '6']
+        assert [answer.head['Retry-After'] for answer in got] == [None, None, None, '10', '10']
         assert 'passwords' in got[-1].error() and got[-1].head['GOO-Signed-In'] is None
         assert statuses(place, 3, 'anna', source=VISITOR) == [404] * 3
 
@@ -482,3 +482,45 @@ def test_method_is_logged_as_it_was_sent(place: Place) -> None:
         ('POST', '400'),
         ('POST', '401'),
     ]
+
+
+# ------------------------------------------------------------------ errors in words
+
+IMPATIENT = (('proxy_read_timeout        300s', 'proxy_read_timeout        1s'),)
+BROWSER = 'text/html,application/xhtml+xml,application/xml;q=0.9,*/*;q=0.8'
+
+
+def is_told_both_ways(place: Place, status: int, wait: str | None, path: str,
+                      body: bytes = b'') -> None:
+    """The same sentence as JSON for a program, and as text for a browser."""
+    method = 'POST' if body else 'GET'
+    answer = ask(place, method, path, 'anna', body=body)
+    shown = ask(place, method, path, 'anna', body=body, Accept=BROWSER)
+    assert answer.status == shown.status == status, (answer.status, shown.status)
+    assert answer.head.get_all('Retry-After') == shown.head.get_all('Retry-After') == (
+        wait and [wait])
+    assert shown.head['Content-Type'] == 'text/plain; charset=utf-8'
+    assert shown.body.decode() == f'{answer.error()}\n'
+
+
+def test_errors_are_json_for_programs_and_words_for_browsers() -> None:
+    with Place(rate=FAST, cost=4, changes=IMPATIENT) as place:
+        is_told_both_ways(place, 413, None, REQUESTS, b'x' * 1_048_577)
+        log = Standin(place.dir / 'door.sock', b'')
+        is_told_both_ways(place, 504, '10', '/v1/audit')
+        log.may_answer.set()
+        is_told_both_ways(place, 502, '10', '/v1/audit')
+    with Place(changes=one_a_minute('zone=goo_user:2m     ', 'goo_user', '20r/s', 60, 1),
+               cost=4) as place:
+        for _ in range(2):
+            ask(place, 'GET', '/v1/audit', 'anna')
+        is_told_both_ways(place, 429, '10', '/v1/audit')
+
+
+def test_a_tag_of_the_records_goes_in_and_nothing_else_that_was_written_there() -> None:
+    with Place(rate=FAST, cost=4) as place:
+        tag = f'"{"0123456789abcdef" * 2}"'
+        for given in (tag, f'W/{tag}', 'x' * 40, f'{tag}, "y"', '*'):
+            ask(place, 'GET', '/records/v1/acts', 'anna', If_None_Match=given)
+        heads = [head.lower() for head in place.records.heads if '/acts' in head]
+        assert [head.count('if-none-match') for head in heads] == [1, 1, 0, 0, 0]

@@ -100,15 +100,25 @@ def test_a_user_has_one_limit_that_no_stranger_uses_up() -> None:
         assert ask(place, 'GET', FOUND, 'bela', X_Trial='192.0.2.1').status == 404
 
 
-def test_a_holder_writes_so_much_in_a_day() -> None:
+def test_a_user_writes_so_much_in_a_day_and_his_colleagues_write_on() -> None:
     with Place(changes=limited('goo_writes:2m', '10r/m', '2000', 'goo_writes', 5),
-               cost=4) as place:
+               cost=4, more=('carla SUN',)) as place:
         def write(user: str) -> int:
             return post(place, user, command='advance', key='k', day='2025-03-01').status
         assert [write('anna') for _ in range(8)] == [403] * 6 + [429] * 2
         assert ask(place, 'GET', '/v1/audit', 'anna').status == 403
-        assert write('bela') == 403
+        assert write('carla') == write('bela') == 403
         assert [write('office') for _ in range(8)] == [409] * 8
+
+
+def test_few_bundles_of_a_user_are_taken() -> None:
+    """Each may be tried on a copy of the registry's file, and all who write wait for it."""
+    with Place(changes=limited('goo_bundles:2m', '6r/m', '20', 'goo_bundles', 5), cost=4) as place:
+        def send(user: str) -> int:
+            return ask(place, 'POST', '/v1/bundles?whole=yes', user, body=b'{}').status
+        assert [send('anna') for _ in range(8)] == [404] * 6 + [429] * 2    # there is no log here
+        assert send('bela') == 404
+        assert post(place, 'anna', command='advance', key='k', day='2025-03-01').status == 403
 
 
 # In a network of its own: the rule on connections, and a server that keeps each one.

@@ -8,9 +8,12 @@ from pathlib import Path
 from typing import Any
 
 import pytest
+from goo_service.common.client import Answer
+from goo_service.exchange import accounts
 from goo_service.exchange import agent
 from goo_service.exchange import orders
 from goo_service.exchange import outbox as outboxes
+from goo_service.exchange.accounts import Kept
 from goo_service.exchange.common import Again
 from goo_service.exchange.common import Notice
 from goo_service.exchange.common import Refused
@@ -21,6 +24,7 @@ from goo_service.exchange.inbox import Inbox
 from goo_service.exchange.ours import Ours
 from goo_service.exchange.outbox import Outbox
 from goo_service.exchange.peer import Peer
+from goo_service.exchange.report import peer_of
 from goo_service.exchange.report import write_states
 from goo_service.exchange.run import run as run_with
 from goo_service.exchange.signature import Key
@@ -551,3 +555,85 @@ def test_a_released_notice_is_imported(side: Side) -> None:
 def test_values_of_another_form_are_left_to_the_registry(side: Side,
                                                          lot: dict[str, object]) -> None:
     assert deliver(side, side.visit(), 1, (1, 9000), **lot) == 'accepted'
+
+
+# -------------------------------------------------------------------- accounts
+
+ACCOUNTS = [{'account': 1, 'holder': 'NORD', 'name': 'Nord Åland'},
+            {'account': 3, 'holder': 'SYD', 'name': 'Syd'}]
+
+
+def accounts_text(found: object = ACCOUNTS, sender: int = THEIRS, addressee: int = OURS) -> str:
+    return compact({'sender': sender, 'addressee': addressee, 'accounts': found})
+
+
+def test_accounts_that_a_peer_publishes_are_kept_until_it_does_not(side: Side) -> None:
+    side.door.show_notices(side.theirs)
+    side.door.show(side.theirs, 'accounts', accounts_text())
+    visit = side.collect()
+    assert visit.left == []
+    assert Kept(side.folder, THEIRS).read() == ACCOUNTS
+    assert peer_of(visit.ours, THEIRS, visit)['accounts'] == ACCOUNTS
+    del side.door.files['accounts']
+    assert side.collect().left == []
+    assert Kept(side.folder, THEIRS).read() is None
+
+
+@pytest.mark.parametrize('text', [
+    accounts_text(sender=8), accounts_text(addressee=8), accounts_text({'account': 1}), 'nothing',
+    accounts_text([{'account': 0, 'holder': 'NORD', 'name': 'x'}]),
+    accounts_text([{'account': 1, 'holder': 'nord', 'name': 'x'}]),
+    accounts_text([{'account': True, 'holder': 'NORD', 'name': 'x'}]),
+    accounts_text([{'account': 1, 'holder': 'NORD', 'name': 'x' * 65}]),
+    accounts_text([{'account': 1, 'holder': 'NORD', 'name': 'a\nb'}]),
+    accounts_text([{'account': 1, 'holder': 'NORD', 'name': 'x', 'more': 1}]),
+    accounts_text(ACCOUNTS * 10_001)], ids=range(11))
+def test_accounts_of_another_form_are_told_and_those_before_stay(side: Side, text: str) -> None:
+    side.door.show_notices(side.theirs)
+    side.door.show(side.theirs, 'accounts', accounts_text())
+    side.collect()
+    side.door.show(side.theirs, 'accounts', text)
+    assert 'none of its lists for us' in side.collect().left[0]
+    assert Kept(side.folder, THEIRS).read() == ACCOUNTS
+
+
+def test_accounts_that_are_not_signed_are_not_believed(side: Side) -> None:
+    side.door.show_notices(side.theirs)
+    side.door.show(side.key, 'accounts', accounts_text())
+    assert 'accounts is not signed' in side.collect().left[0]
+    assert Kept(side.folder, THEIRS).read() is None
+
+
+class Pages:
+    """Our records, page by page."""
+
+    def __init__(self, *pages: object) -> None:
+        self.pages = [Answer(200, {}, compact(page).encode()) for page in pages]
+
+    def get(self, route: str) -> Answer:
+        assert route.startswith('/records/v1/directory?limit=1000&offset=')
+        return self.pages.pop(0)
+
+
+def test_our_accounts_are_published_signed_for_each_peer_and_taken_away(side: Side) -> None:
+    outbox = side.visit().ours.outbox
+    pages: Any = Pages({'items': ACCOUNTS[:1], 'next': 1000}, {'items': ACCOUNTS[1:], 'next': None})
+    assert accounts.publish(accounts.Directory(pages), outbox, [8, 9]) == []
+    for peer in (8, 9):
+        text = outbox.place(peer, 'accounts').read_text()
+        assert text == accounts_text(sender=OURS, addressee=peer)
+        assert is_signed(text, outbox.place(peer, 'accounts.sig').read_text(), side.key.public)
+    assert Outbox(side.folder / 'outbox', OURS, side.key).damaged() == []
+    assert accounts.publish(None, outbox, [8, 9]) == []
+    assert not list((side.folder / 'outbox').glob('*/accounts*'))
+
+
+def test_accounts_that_the_records_do_not_tell_are_left(side: Side) -> None:
+    outbox = side.visit().ours.outbox
+    nowhere = accounts.Directory.of({'publish_accounts': 'yes', 'records': 'unix:/nowhere/socket'})
+    assert 'our records: no answer' in accounts.publish(nowhere, outbox, [9])[0]
+    assert accounts.Directory.of({}) is None
+    for wrong in ({'publish_accounts': 'maybe'},
+                  {'publish_accounts': 'yes', 'records': 'http://x'}):
+        with pytest.raises(ValueError):
+            accounts.Directory.of(wrong)

@@ -1,4 +1,4 @@
-"""The host around the registry: units, set-up, upgrade, exchange, certificates, and what root touches."""
+"""The host around the registry: units, set-up, upgrade, certificates, and what root touches."""
 import datetime
 import functools
 import json
@@ -59,11 +59,13 @@ def whole_stage() -> Iterator[Stage]:
 
 
 PREPARED = '''
-rm -rf /var/lib/goo* /etc/goo /run/goo /run/goo-upgrade /run/stage/active /run/stage/restarts* /var/backups/goo
-rm -rf /etc/systemd/system/goo* /run/stage/refuses* /run/stage/enabled* /usr/lib/goo/goo.before /usr/lib/goo/goo.refused
+rm -rf /var/lib/goo* /etc/goo /run/goo /run/goo-upgrade /run/stage/active /run/stage/restarts*
+rm -rf /var/backups/goo /usr/lib/goo/goo.before /usr/lib/goo/goo.refused
+rm -rf /etc/systemd/system/goo* /run/stage/refuses* /run/stage/enabled*
 mkdir -p /run/goo /run/stage/active /var/backups/goo /etc/goo /etc/nginx
 cp -a /usr/share/goo/etc/nginx/goo.conf /etc/nginx/
-for pair in goo:goo goo-exchange:goo-agent goo-replica:goo-replica goo-records:goo-records goo-etcd:goo-etcd; do
+for pair in goo:goo goo-exchange:goo-agent goo-replica:goo-replica goo-records:goo-records \
+    goo-etcd:goo-etcd; do
     install -d -m 750 -o ${pair#*:} -g ${pair#*:} /var/lib/${pair%:*}
 done
 openssl rand -hex 32 > /etc/goo/replica.key
@@ -72,7 +74,8 @@ chmod 400 /etc/goo/replica.key
 : > /run/stage/openings
 : > /run/stage/calls
 '''
-RUNS = ('goo-door.socket', 'goo.service', 'goo-replica.service', 'goo-registry.socket', 'goo-backup.timer')
+RUNS = ('goo-door.socket', 'goo.service', 'goo-replica.service', 'goo-registry.socket',
+        'goo-backup.timer')
 
 
 @pytest.fixture
@@ -88,7 +91,8 @@ def stage(whole_stage: Stage) -> Stage:
 @pytest.fixture
 def registry(stage: Stage) -> Iterator[Stage]:
     """A registry of version 1.0.0 that runs behind its log."""
-    stage.shell('setpriv --reuid=goo --regid=goo --clear-groups goo init --db /var/lib/goo/registry.db\n'
+    stage.shell('setpriv --reuid=goo --regid=goo --clear-groups '
+                'goo init --db /var/lib/goo/registry.db\n'
                 'goo-replica-log found\n'
                 f'systemctl start {" ".join(RUNS)}\n: > /run/stage/openings')
     door = stage.begin('/usr/bin/python3', '/usr/lib/stage/door.py')
@@ -104,7 +108,8 @@ def registry(stage: Stage) -> Iterator[Stage]:
 
 def is_well(stage: Stage) -> bool:
     """Whether the registry takes requests."""
-    words = ('curl', '-s', '--max-time', '5', '-o', '/dev/null', '-w', '%{http_code}', '--unix-socket',
+    words = ('curl', '-s', '--max-time', '5', '-o', '/dev/null', '-w', '%{http_code}',
+             '--unix-socket',
              '/run/goo/door.sock', 'http://localhost/healthz')
     return stage.run(*words).out == '200'
 
@@ -112,7 +117,8 @@ def is_well(stage: Stage) -> bool:
 def unpack(stage: Stage, tables: int = 2, more: str = '') -> None:
     """What dpkg does with a new package up to its postinst."""
     for name in ('preinst', 'postinst'):
-        stage.put(f'/run/stage/{name}', (SERVICE / f'debian/goo.{name}').read_text(encoding='utf-8'), 0o755)
+        text = (SERVICE / f'debian/goo.{name}').read_text(encoding='utf-8')
+        stage.put(f'/run/stage/{name}', text, 0o755)
     done = stage.run('/run/stage/preinst', 'upgrade', '1.0.0')
     assert done.status == 0, done
     stage.program('1.1.0', tables, more)
@@ -144,7 +150,8 @@ def test_a_stop_puts_the_log_into_the_database(registry: Stage) -> None:
 
 @pytest.mark.parametrize(('result', 'code'), [('signal', 'killed'), ('exit-code', 'exited'),
                                               ('success', 'exited'), ('oom-kill', 'killed')])
-def test_a_registry_that_is_started_again_is_opened_once(registry: Stage, result: str, code: str) -> None:
+def test_a_registry_that_is_started_again_is_opened_once(
+        registry: Stage, result: str, code: str) -> None:
     registry.shell(f'SERVICE_RESULT={result} EXIT_CODE={code} '
                    '/usr/lib/goo/close-database /var/lib/goo/registry.db')
     assert registry.lines('/run/stage/openings') == []
@@ -152,7 +159,8 @@ def test_a_registry_that_is_started_again_is_opened_once(registry: Stage, result
 
 @pytest.mark.parametrize('fault', ['no key of the log', 'tables of another version',
                                    'a program that does not run', 'a program that crashes'])
-def test_a_version_that_does_not_take_over_leaves_the_one_of_before(registry: Stage, fault: str) -> None:
+def test_a_version_that_does_not_take_over_leaves_the_one_of_before(
+        registry: Stage, fault: str) -> None:
     if fault == 'no key of the log':
         registry.shell('mv /etc/goo/replica.key /etc/goo/kept')
     unpack(registry, 3 if fault == 'tables of another version' else 2,
@@ -168,8 +176,8 @@ def test_a_version_that_does_not_take_over_leaves_the_one_of_before(registry: St
     registry.shell('[ ! -e /etc/goo/kept ] || mv /etc/goo/kept /etc/goo/replica.key')
     registry.shell('rm -f /run/stage/restarts-goo.service')
     if registry.run('ls', '/usr/lib/goo/goo.refused').out:
-        registry.shell('sed -i "s/exit 3;//; s/: CRASHES;//; s/VALUES (3,/VALUES (2,/; s/= 3 /= 2 /" '
-                       '/usr/lib/goo/goo.refused')
+        registry.shell('sed -i "s/exit 3;//; s/: CRASHES;//; s/VALUES (3,/VALUES (2,/; '
+                       's/= 3 /= 2 /" /usr/lib/goo/goo.refused')
     done = configure(registry)
     assert done.status == 0 and version(registry) == 'goo 1.1.0' and is_well(registry), done
 
@@ -189,7 +197,8 @@ def test_a_set_up_that_is_ended_half_way_leaves_what_ran(registry: Stage, number
     begun.wait(60)
     assert begun.returncode != 0
     if number != signal.SIGKILL:
-        assert set(RUNS) <= registry.active() and is_well(registry), (registry.folder / 'said').read_text()
+        said = (registry.folder / 'said').read_text()
+        assert set(RUNS) <= registry.active() and is_well(registry), said
     done = configure(registry)
     registry.shell('rm /run/stage/goes-on')
     assert done.status == 0 and set(RUNS) <= registry.active() and is_well(registry), done
@@ -219,7 +228,8 @@ def test_a_registry_that_was_stopped_stays_so(registry: Stage) -> None:
 
 
 def test_a_host_of_three_waits_for_its_renewal(registry: Stage) -> None:
-    registry.put('/etc/goo/replica.env', 'REPLICA_WORDS=--name h1 --code 7 --etcd https://192.0.2.1:2379\n')
+    registry.put('/etc/goo/replica.env',
+                 'REPLICA_WORDS=--name h1 --code 7 --etcd https://192.0.2.1:2379\n')
     unpack(registry)
     done = configure(registry)
     assert done.status == 0 and 'goo-setup renew' in done.out, done
@@ -238,7 +248,10 @@ try:
 except common.Refused as fault:
     sys.exit(str(fault))
 '''
-"""`goo-setup renew` on a host whose log is in files: over etcd it differs by where the version stands."""
+"""`goo-setup renew` on a host whose log is in files.
+
+Over etcd it differs by where the version stands.
+"""
 
 
 def test_a_renewal_takes_over(registry: Stage) -> None:
@@ -255,7 +268,8 @@ def test_a_renewal_that_fails_goes_back_with_the_log(registry: Stage) -> None:
     assert done.status == 1 and 'goo-setup renew tries the new one again' in done.err, done
     assert version(registry) == 'goo 1.0.0' and is_well(registry), 'the log is at its version again'
     assert set(RUNS) <= registry.active(), done
-    registry.shell('rm /run/stage/restarts-goo.service; sed -i "s/: CRASHES;//" /usr/lib/goo/goo.refused')
+    registry.shell('rm /run/stage/restarts-goo.service\n'
+                   'sed -i "s/: CRASHES;//" /usr/lib/goo/goo.refused')
     done = registry.python(RENEWED)
     assert done.status == 0 and version(registry) == 'goo 1.1.0' and is_well(registry), done
 
@@ -273,22 +287,27 @@ def test_a_host_does_not_go_back_behind_a_log_that_others_have_moved(registry: S
 
 @pytest.mark.parametrize(('words', 'lacks'), [('', "the host's name"),
                                               ('--name a.example --self-signed', 'the first user')])
-def test_a_set_up_that_nobody_answers_says_what_it_lacks(stage: Stage, words: str, lacks: str) -> None:
+def test_a_set_up_that_nobody_answers_says_what_it_lacks(
+        stage: Stage, words: str, lacks: str) -> None:
     done = stage.run('sh', '-c', f'exec goo-setup {words} < /dev/null')
     assert done.status == 1 and 'Traceback' not in done.err, done
     assert f'goo-setup: {lacks}' in done.err and 'was not given' in done.err, done
 
 
 def test_a_host_that_joins_has_what_the_first_one_packed(stage: Stage) -> None:
-    owners = {'/var/lib/goo': 'goo', '/var/lib/goo-replica': 'goo-replica', '/var/lib/goo-records/first': 'goo-records'}
+    owners = {'/var/lib/goo': 'goo', '/var/lib/goo-replica': 'goo-replica',
+              '/var/lib/goo-records/first': 'goo-records'}
     for folder, user in owners.items():
-        stage.shell(f'setpriv --reuid={user} --regid={user} --clear-groups sh -ec "mkdir -p {folder}/archive {folder}/log;'
-                    f' echo {user} > {folder}/archive/kept; echo x > {folder}/log/left; chmod 600 {folder}/archive/kept"')
+        stage.shell(f'setpriv --reuid={user} --regid={user} --clear-groups sh -ec '
+                    f'"mkdir -p {folder}/archive {folder}/log;'
+                    f' echo {user} > {folder}/archive/kept; echo x > {folder}/log/left;'
+                    f' chmod 600 {folder}/archive/kept"')
     done = stage.python(PACKED)
     assert done.status == 0, done
     for folder, user in owners.items():
         assert stage.text(f'{folder}/archive/kept') == f'{user}\n'
-        assert stage.run('stat', '-c', '%U %G %a', f'{folder}/archive/kept').out == f'{user} {user} 600\n'
+        said = stage.run('stat', '-c', '%U %G %a', f'{folder}/archive/kept').out
+        assert said == f'{user} {user} 600\n'
         assert stage.run('ls', f'{folder}/log').status != 0, 'the log of the first host stays there'
 
 
@@ -311,11 +330,12 @@ for name, folder in cluster.THEIR_FOLDERS.items():
 # ------------------------------------------------------------------ what root must not touch
 
 NAMES = {
-    '/var/lib/goo': 'registry.db registry.db-wal registry.db-journal registry.db-shm reserve restoring '
-                    'restoring-configuration before-2025',
+    '/var/lib/goo': 'registry.db registry.db-wal registry.db-journal registry.db-shm reserve '
+                    'restoring restoring-configuration before-2025',
     '/var/lib/goo-exchange': 'state.json generation.json restored.json outbox inbox refused lock',
     '/var/lib/goo-replica': 'place log archive aside shipped shipped.part place.part .ssh',
-    '/var/lib/goo-records': 'first first.part exchange.json exchange.json.part current .lock code.key',
+    '/var/lib/goo-records':
+        'first first.part exchange.json exchange.json.part current .lock code.key',
     '/var/lib/goo-etcd': 'data',
 }
 """What stands in the folder of a service, or could."""
@@ -325,17 +345,23 @@ PLANTS = {
     'pipes': 'mkfifo "$1"',
     'folders with links': 'mkdir "$1"; ln -s /run/canary/file "$1/2025-01.jsonl"; '
                           'ln -s /run/canary/folder "$1/00000000000000000001.jsonl"; '
-                          'ln -s /run/canary/file "$1/place.json"; ln -s /run/canary/folder "$1/folder"',
+                          'ln -s /run/canary/file "$1/place.json"; '
+                          'ln -s /run/canary/folder "$1/folder"',
 }
 AROUND_THE_LOG = (
-    'goo-replica-log verify', 'goo-replica-log verify --from {COPY}', 'goo-replica-log compress', 'goo-replica-log found',
-    'goo-replica-log version x', 'goo-replica-log first-copy', 'goo-replica-log place {COPY}', 'goo-replica-log copy',
+    'goo-replica-log verify', 'goo-replica-log verify --from {COPY}', 'goo-replica-log compress',
+    'goo-replica-log found', 'goo-replica-log version x', 'goo-replica-log first-copy',
+    'goo-replica-log place {COPY}', 'goo-replica-log copy',
     'goo-setup upgraded', 'goo-copies restore {COPY} --without-list --although-broken',
     'goo-copies restore {COPY} --without-list --although-broken --new-log',
     'goo-copies restore --open --unsettled', 'goo-setup --self-signed')
-"""What root carries out by the programs of the log and of the copies; the later ones change what runs."""
-ROOTS_FOLDERS = ('/run', '/run/goo', '/run/goo-front', '/var/lib', '/var/log/goo', '/var/backups/goo',
-                 '/etc/goo', '/etc/goo/peers', '/etc/goo/tls', '/usr/lib/goo', '/run/goo-units')
+"""What root carries out by the programs of the log and of the copies.
+
+The later ones change what runs.
+"""
+ROOTS_FOLDERS = ('/run', '/run/goo', '/run/goo-front', '/var/lib', '/var/log/goo',
+                 '/var/backups/goo', '/etc/goo', '/etc/goo/peers', '/etc/goo/tls',
+                 '/usr/lib/goo', '/run/goo-units')
 COPY = '/var/backups/goo/2025-01-01T000000Z'
 WORK = {
     'goo-setup doctor': 'goo-setup doctor',
@@ -379,7 +405,8 @@ END''',
 def privileged_lines() -> dict[str, str]:
     """The lines of units that systemd carries out as root, outside of what shuts a unit in."""
     found = {}
-    for path in (*SERVICE.glob('etc/systemd/*.service'), *SERVICE.glob('etc/systemd/*.d/*'), *SERVICE.glob('etc/drop-ins/*')):
+    files = ('etc/systemd/*.service', 'etc/systemd/*.d/*', 'etc/drop-ins/*')
+    for path in (path for form in files for path in SERVICE.glob(form)):
         for line in path.read_text(encoding='utf-8').splitlines():
             name, _, words = line.partition('=')
             if name.startswith('Exec') and '+' in words[:3]:
@@ -390,11 +417,14 @@ def privileged_lines() -> dict[str, str]:
 @pytest.fixture
 def planted(stage: Stage) -> Iterator[Stage]:
     """A host with a configuration and a copy, on which nothing runs."""
-    stage.shell('mkdir -p /etc/goo/tls /etc/goo/peers; echo "server_name a.example;" > /etc/goo/host.conf\n'
+    stage.shell('mkdir -p /etc/goo/tls /etc/goo/peers\n'
+                'echo "server_name a.example;" > /etc/goo/host.conf\n'
                 'openssl req -x509 -newkey ec -pkeyopt ec_paramgen_curve:P-256 -nodes -days 90 '
-                '-subj /CN=a.example -keyout /etc/goo/tls/key.pem -out /etc/goo/tls/cert.pem 2> /dev/null\n'
+                '-subj /CN=a.example -keyout /etc/goo/tls/key.pem -out /etc/goo/tls/cert.pem '
+                '2> /dev/null\n'
                 'chmod 600 /etc/goo/tls/key.pem; : > /etc/goo/callers; : > /etc/goo/users\n'
-                f'mkdir {COPY}; sqlite3 {COPY}/registry.db "CREATE TABLE receipt (x); INSERT INTO receipt VALUES (1)"\n'
+                f'mkdir {COPY}; sqlite3 {COPY}/registry.db "CREATE TABLE receipt (x); '
+                'INSERT INTO receipt VALUES (1)"\n'
                 f'echo "{{\\"n\\": 3}}" > {COPY}/place.json\n')
     yield stage
 
@@ -405,7 +435,8 @@ def plant(stage: Stage, kind: str) -> Canary:
     for user_folder, names in NAMES.items():
         user = FOLDERS[user_folder]
         text = f'cd {user_folder}; for name in {names}; do set -- "$name"; {PLANTS[kind]}; done'
-        done = stage.run('setpriv', f'--reuid={user}', f'--regid={user}', '--clear-groups', 'sh', '-ec', text)
+        done = stage.run('setpriv', f'--reuid={user}', f'--regid={user}', '--clear-groups', 'sh',
+                         '-ec', text)
         assert done.status == 0, done
     assert canary.seen() == [], 'planting itself touches nothing'
     return canary
@@ -416,16 +447,19 @@ def test_root_follows_nothing_that_a_service_has_planted(planted: Stage, kind: s
     canary = plant(planted, kind)
     for what, text in {**privileged_lines(), **WORK}.items():
         done = planted.run('sh', '-c', text, seconds=100)
-        assert 'Traceback' not in done.err and 'SECRET' not in done.out + done.err, f'{what}: {done}'
+        said = done.out + done.err
+        assert 'Traceback' not in done.err and 'SECRET' not in said, f'{what}: {done}'
         assert canary.seen() == [], f'{what}: {done}'
-    secrets = planted.run('grep', '-rlD', 'skip', 'SECRET', '/var/lib', '/var/backups', '/etc/goo', '/run/goo')
+    secrets = planted.run('grep', '-rlD', 'skip', 'SECRET', '/var/lib', '/var/backups', '/etc/goo',
+                          '/run/goo')
     assert secrets.out == '', 'a copy of it is somewhere'
     canary.close()
 
 
 @pytest.mark.parametrize('kind', [kind for kind in PLANTS if kind != 'pipes'])
 def test_root_follows_nothing_around_the_log(planted: Stage, kind: str) -> None:
-    planted.shell(f'cd {COPY}; rm registry.db; sqlite3 registry.db "CREATE TABLE meta (version, code)"\n'
+    planted.shell(f'cd {COPY}; rm registry.db\n'
+                  'sqlite3 registry.db "CREATE TABLE meta (version, code)"\n'
                   'echo ok > audit.txt\n'
                   'echo \'{"n": 3, "hash": "a", "chain": "b", "version": "c"}\' > place.json\n'
                   'systemctl start goo.service goo-replica.service')
@@ -433,7 +467,8 @@ def test_root_follows_nothing_around_the_log(planted: Stage, kind: str) -> None:
     for words in AROUND_THE_LOG:
         text = f'PATH=/usr/lib/goo:$PATH; exec timeout -k 1 20 {words.replace("{COPY}", COPY)}'
         done = planted.run('sh', '-c', text)
-        waits = '--new-log' in words            # for a log that nothing on this host takes up
+        # for a log that nothing on this host takes up
+        waits = '--new-log' in words or '--open' in words
         assert (done.status != 124 or waits) and 'Traceback' not in done.err, f'{words}: {done}'
         assert canary.seen() == [], f'{words}: {done}'
     canary.close()
@@ -442,8 +477,10 @@ def test_root_follows_nothing_around_the_log(planted: Stage, kind: str) -> None:
 def test_each_user_writes_into_folders_of_its_own_alone(planted: Stage) -> None:
     planted.shell('systemd-tmpfiles --create goo.conf')
     for user in USERS:
-        text = f'for folder in {" ".join(ROOTS_FOLDERS)}; do [ ! -w "$folder" ] || echo "$folder"; done'
-        done = planted.run('setpriv', f'--reuid={user}', f'--regid={user}', '--init-groups', 'sh', '-c', text)
+        text = (f'for folder in {" ".join(ROOTS_FOLDERS)}; do '
+                '[ ! -w "$folder" ] || echo "$folder"; done')
+        done = planted.run('setpriv', f'--reuid={user}', f'--regid={user}', '--init-groups', 'sh',
+                           '-c', text)
         assert done.out == '', f'{user}: {done.out}'
 
 
@@ -459,8 +496,8 @@ def test_the_records_are_handed_what_the_exchange_told(planted: Stage) -> None:
 @functools.cache
 def signed(days: int) -> str:
     """A certificate that this host signs itself, for so many days from now."""
-    words = ['openssl', 'req', '-x509', '-newkey', 'ec', '-pkeyopt', 'ec_paramgen_curve:P-256', '-nodes',
-             '-days', str(days), '-subj', '/CN=a.example', '-keyout', '/dev/null']
+    words = ['openssl', 'req', '-x509', '-newkey', 'ec', '-pkeyopt', 'ec_paramgen_curve:P-256',
+             '-nodes', '-days', str(days), '-subj', '/CN=a.example', '-keyout', '/dev/null']
     return subprocess.run(words, check=True, capture_output=True, text=True).stdout
 
 
@@ -484,12 +521,15 @@ def etc(tmp_path: Path, monkeypatch: pytest.MonkeyPatch) -> Path:
 
 
 @pytest.mark.parametrize('name', ['tls/cert', 'etcd/ca', 'etcd/member', 'etcd/replica', 'peers/09'])
-@pytest.mark.parametrize(('days', 'told'), [(32, ''), (30, 'ends in 29 days'), (1, 'ends in 0 days')])
-def test_a_certificate_is_told_thirty_days_before_its_end(etc: Path, name: str, days: int, told: str) -> None:
+@pytest.mark.parametrize(('days', 'told'), [
+    (32, ''), (30, 'ends in 29 days'), (1, 'ends in 0 days')])
+def test_a_certificate_is_told_thirty_days_before_its_end(
+        etc: Path, name: str, days: int, told: str) -> None:
     assert list(doctor.of_certificates()) == []
     certificate(etc / f'{name}.pem', days)
     found = [finding.what for finding in doctor.of_certificates()]
-    assert len(found) == bool(told) and all(f'{name}.pem' in what and told in what for what in found), found
+    assert len(found) == bool(told), found
+    assert all(f'{name}.pem' in what and told in what for what in found), found
 
 
 def test_a_certificate_that_has_ended_is_told(etc: Path, monkeypatch: pytest.MonkeyPatch) -> None:
@@ -528,17 +568,18 @@ def test_a_book_that_fits_its_log_is_well(book: SimpleNamespace) -> None:
 
 
 @pytest.mark.parametrize(('accounts', 'stands', 'code', 'told'), [
-    (0, 40, 7, 'have not account 3'), (2, 40, 7, 'have not account 3'), (3, 41, 7, 'are of another log'),
-    (3, 40, 8, 'with registry 7, and this is registry 8')])
-def test_a_book_of_another_beginning_is_told(book: SimpleNamespace, accounts: int, stands: int, code: int,
-                                             told: str) -> None:
+    (0, 40, 7, 'have not account 3'), (2, 40, 7, 'have not account 3'),
+    (3, 41, 7, 'are of another log'), (3, 40, 8, 'with registry 7, and this is registry 8')])
+def test_a_book_of_another_beginning_is_told(
+        book: SimpleNamespace, accounts: int, stands: int, code: int, told: str) -> None:
     book.accounts, book.code = accounts, code
     found = list(doctor.of_book(40, stands))
     assert len(found) == 1 and told in found[0].what and 'records.conf' in found[0].text(), found
     assert found[0].row is doctor.Row.RECORDS
 
 
-def test_the_book_is_asked_before_the_log(monkeypatch: pytest.MonkeyPatch, book: SimpleNamespace) -> None:
+def test_the_book_is_asked_before_the_log(
+        monkeypatch: pytest.MonkeyPatch, book: SimpleNamespace) -> None:
     """A request that comes between the two makes no fault of it."""
     state = {'entry': 40}
 
@@ -558,12 +599,14 @@ def test_what_services_wrote_reaches_no_terminal_as_it_is(capsys: pytest.Capture
     monkeypatch.setattr(doctor, 'findings', lambda: iter([finding]))
     assert doctor.doctor() == 1
     said = capsys.readouterr().out
-    assert said.splitlines()[:3] == ['?[2Ja??b', '    WRONG.md, "A unit has failed"', '    c?'], said
+    wanted = ['?[2Ja??b', '    WRONG.md, "A unit has failed"', '    c?']
+    assert said.splitlines()[:3] == wanted
 
 
 # ------------------------------------------------------------------ the units
 
-LINKED = [Path(target) for _, target in map(str.split, (SERVICE / 'debian/goo.links').read_text().splitlines())]
+LINKED = [Path(line.split()[1])
+          for line in (SERVICE / 'debian/goo.links').read_text().splitlines()]
 """What the package has by a link."""
 
 
@@ -578,7 +621,8 @@ def drop_ins(unit: Path) -> list[Path]:
 def lines_of(unit: Path) -> dict[str, list[str]]:
     """The lines of a unit by their names; an empty value takes back those before it."""
     found: dict[str, list[str]] = {}
-    for line in ''.join(path.read_text(encoding='utf-8') for path in (unit, *drop_ins(unit))).splitlines():
+    texts = [path.read_text(encoding='utf-8') for path in (unit, *drop_ins(unit))]
+    for line in ''.join(texts).splitlines():
         name, equals, value = line.partition('=')
         if equals and not line.startswith('#'):
             found[name] = [*found.get(name, []), value] if value else []
@@ -587,13 +631,14 @@ def lines_of(unit: Path) -> dict[str, list[str]]:
 
 UNITS = {path.name: lines_of(path) for path in SERVICE.glob('etc/systemd/*') if path.is_file()}
 SERVICES = {name: lines for name, lines in UNITS.items() if name.endswith('.service')}
-ONE_EACH = {name.replace('.socket', '@.service') for name, lines in UNITS.items() if lines.get('Accept') == ['yes']}
+ONE_EACH = {name.replace('.socket', '@.service')
+            for name, lines in UNITS.items() if lines.get('Accept') == ['yes']}
 """Services of one connection each: whoever has connected is told of a failure."""
-SHUT_IN = ('ProtectSystem', 'ProtectHome', 'PrivateTmp', 'PrivateDevices', 'ProtectClock', 'ProtectHostname',
-           'ProtectKernelLogs', 'ProtectKernelModules', 'ProtectKernelTunables', 'ProtectControlGroups',
-           'LockPersonality', 'MemoryDenyWriteExecute', 'RestrictNamespaces', 'RestrictRealtime',
-           'RestrictSUIDSGID', 'RestrictAddressFamilies', 'CapabilityBoundingSet', 'SystemCallArchitectures',
-           'SystemCallFilter', 'UMask')
+SHUT_IN = ('ProtectSystem', 'ProtectHome', 'PrivateTmp', 'PrivateDevices', 'ProtectClock',
+           'ProtectHostname', 'ProtectKernelLogs', 'ProtectKernelModules', 'ProtectKernelTunables',
+           'ProtectControlGroups', 'LockPersonality', 'MemoryDenyWriteExecute',
+           'RestrictNamespaces', 'RestrictRealtime', 'RestrictSUIDSGID', 'RestrictAddressFamilies',
+           'CapabilityBoundingSet', 'SystemCallArchitectures', 'SystemCallFilter', 'UMask')
 
 
 @pytest.mark.parametrize('name', sorted(SERVICES))
@@ -633,21 +678,24 @@ def units_program() -> ModuleType:
     return import_module('goo_service.setup.units')
 
 
-SHOWN = '\n'.join(['Id={}', 'Type={}', 'ActiveState={}', 'SubState={}', 'Result={}', 'NRestarts={}', ''])
+SHOWN = 'Id={}\nType={}\nActiveState={}\nSubState={}\nResult={}\nNRestarts={}\n'
+REPLICA, EXEC = 'goo-replica.service', 'exec'
 WELL = SHOWN.format('goo.service', 'exec', 'active', 'running', 'success', '7')
 
 
 @pytest.mark.parametrize(('unit', 'told'), [
-    (('goo-replica.service', 'exec', 'activating', 'auto-restart', 'exit-code', '61'), 'again and again'),
-    (('goo-replica.service', 'exec', 'active', 'running', 'exit-code', '61'), 'started again 11 times'),
-    (('goo-replica.service', 'exec', 'active', 'running', 'success', '52'), ''),
-    (('goo-replica.service', 'exec', 'active', 'running', 'success', '0'), ''),
-    (('goo-replica.service', 'exec', 'failed', 'failed', 'exit-code', '50'), 'has failed (exit-code)'),
-    (('goo-door.socket', '', 'failed', 'failed', 'trigger-limit-hit', ''), 'has failed (trigger-limit-hit)'),
+    ((REPLICA, EXEC, 'activating', 'auto-restart', 'exit-code', '61'), 'again and again'),
+    ((REPLICA, EXEC, 'active', 'running', 'exit-code', '61'), 'started again 11 times'),
+    ((REPLICA, EXEC, 'active', 'running', 'success', '52'), ''),
+    ((REPLICA, EXEC, 'active', 'running', 'success', '0'), ''),
+    ((REPLICA, EXEC, 'failed', 'failed', 'exit-code', '50'), 'has failed (exit-code)'),
+    (('goo-door.socket', '', 'failed', 'failed', 'trigger-limit-hit', ''),
+     'has failed (trigger-limit-hit)'),
     (('goo-backup.service', 'oneshot', 'failed', 'failed', 'exit-code', '0'), ''),
     (('goo-records.service', 'exec', 'inactive', 'dead', 'success', '0'), '')])
 def test_units_that_do_not_stay_up_are_told(unit: tuple[str, ...], told: str) -> None:
     module = units_program()
     found = module.faults(module.units_in(f'{WELL}\n{SHOWN.format(*unit)}'),
                           {'goo.service': 7, 'goo-replica.service': 50})
-    assert len(found) == bool(told) and all(unit[0] in line and told in line for line in found), found
+    assert len(found) == bool(told), found
+    assert all(unit[0] in line and told in line for line in found), found

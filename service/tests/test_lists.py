@@ -8,6 +8,7 @@ from dataclasses import field
 from typing import Any
 
 import pytest
+from goo_service.records.parameters import page_parameter
 from house import Country
 from house import House
 from mutations import gsrn
@@ -48,7 +49,7 @@ class Sent:
             following = answer.json.get('next')
             if not following:
                 return found
-            more = f'&{"before" if name == "acts" else "offset"}={following}'
+            more = f'&{page_parameter(name)}={following}'
 
 
 @pytest.fixture(scope='module')

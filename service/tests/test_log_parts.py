@@ -108,29 +108,33 @@ def test_an_answer_names_its_entry_and_lets_go_of_what_was_held() -> None:
     one, other = client.request(), Client(7).request()
     requests.add(one)
     requests.add(other)
-    assert requests.sent.of('SUN') == 507 and requests.held == 507
+    assert requests.sent.of('SUN', 'u') == (507, 507) and requests.held == 507
     one.entry = 12
     requests.finish(one, Answer(200, 'application/json', b'{}'))
     assert client.told == [(200, {'GOO-Entry': 12})]
-    assert requests.sent.of('SUN') == 7 and requests.held == 7
+    assert requests.sent.of('SUN', 'u') == (7, 7) and requests.held == 7
     assert list(requests.pending.values()) == [other] and not requests.is_full()
 
 
 # ------------------------------------------------------------------ what a day has
 
-def line_of(n: int, caller: str, moment: datetime.datetime = NOW) -> bytes:
-    entry = Entry(n, 'p', moment.isoformat(timespec='microseconds')[:26] + 'Z', 'h', '"caller":"X"',
+USER = '"caller":"X"'
+
+
+def line_of(n: int, caller: str, moment: datetime.datetime = NOW, user: str = USER) -> bytes:
+    entry = Entry(n, 'p', moment.isoformat(timespec='microseconds')[:26] + 'Z', 'h', user,
                   'a', 'full', caller, 'POST', '/v1/requests', 'v', 'id', b'"caller":"Y"')
     return entries.written(entry, KEY)
 
 
-SENDS = some.lists(some.tuples(some.sampled_from(['SUN', 'VOLT', 'Ä"']), some.booleans()),
-                   max_size=20)
+Sends = list[tuple[str, str, bool]]
+"""Of each entry its caller, its user, and whether it is of today."""
+SENDS = some.lists(some.tuples(some.sampled_from(['SUN', 'VOLT', 'Ä"']),
+                               some.sampled_from(['anna', USER]), some.booleans()), max_size=20)
 
 
 @given(SENDS, some.integers(0, 20))
-def test_each_entry_of_the_day_counts_once_over_a_start(sends: list[tuple[str, bool]],
-                                                        cut: int) -> None:
+def test_each_entry_of_the_day_counts_once_over_a_start(sends: Sends, cut: int) -> None:
     """A start reads the file, and counts the entries after the last one in it."""
     with pytest.MonkeyPatch.context() as patch:
         patch.setattr(day, 'now', lambda: NOW)
@@ -139,16 +143,15 @@ def test_each_entry_of_the_day_counts_once_over_a_start(sends: list[tuple[str, b
             wanted = count_with_a_start(sends, cut, path)
         finally:
             path.unlink(missing_ok=True)
-    for caller, (of_day, counted) in wanted.items():
-        assert of_day == counted, caller
+    for who, (of_day, counted) in wanted.items():
+        assert of_day == counted, who
 
 
-def count_with_a_start(sends: list[tuple[str, bool]], cut: int,
-                       path: Path) -> dict[str, tuple[int, int]]:
-    """By caller the bytes of his lines of today, and those that were counted."""
+def count_with_a_start(sends: Sends, cut: int, path: Path) -> dict[object, tuple[object, object]]:
+    """By caller and user the bytes of their lines of today, and those that were counted."""
     sent = day.Sent(path, 0)
-    lines = [line_of(n, caller, NOW if is_today else NOW - datetime.timedelta(1))
-             for n, (caller, is_today) in enumerate(sends, 1)]
+    lines = [line_of(n, caller, NOW if is_today else NOW - datetime.timedelta(1), user)
+             for n, (caller, user, is_today) in enumerate(sends, 1)]
     for n, line in enumerate(lines, 1):
         sent.count(n, line)
         if n == cut:
@@ -156,21 +159,25 @@ def count_with_a_start(sends: list[tuple[str, bool]], cut: int,
             sent = day.read(path, 0)
     for n, line in enumerate(lines, 1):
         sent.count(n, line)                             # those that it has are none again
-    return {caller: (sum(len(line) for line, (name, is_today) in zip(lines, sends)
-                         if name == caller and is_today), sent.of(caller))
-            for caller, _ in sends}
+    todays = [(caller, user, len(line)) for line, (caller, user, is_today) in zip(lines, sends)
+              if is_today]
+    return {(caller, user): (
+        (sum(size for name, _, size in todays if name == caller),
+         sum(size for *who, size in todays if who == [caller, user])), sent.of(caller, user))
+        for caller, user, _ in sends}
 
 
 def test_another_day_begins_with_nothing(monkeypatch: pytest.MonkeyPatch, tmp_path: Path) -> None:
     monkeypatch.setattr(day, 'now', lambda: NOW)
     sent = day.Sent(tmp_path / 'sent', 0)
     sent.count(1, line_of(1, 'SUN'))
-    sent.hold('SUN', 10)
-    assert sent.of('SUN') == len(line_of(1, 'SUN')) + 10
+    sent.hold('SUN', 'anna', 10)
+    size = len(line_of(1, 'SUN'))
+    assert sent.of('SUN', USER) == (size + 10, size) and sent.of('SUN', 'anna') == (size + 10, 10)
     monkeypatch.setattr(day, 'now', lambda: NOW + datetime.timedelta(1))
-    assert sent.of('SUN') == 10                         # what waits will be of that day
-    sent.release('SUN', 10)
-    assert sent.of('SUN') == 0 and not sent.waiting
+    assert sent.of('SUN', 'anna') == (10, 10)           # what waits will be of that day
+    sent.release('SUN', 'anna', 10)
+    assert sent.of('SUN', 'anna') == (0, 0) and not sent.waiting
 
 
 @pytest.mark.parametrize('text', ['', '{', '[]', '{"day":1}', json.dumps({'day': 'x', 'entry': 1}),

@@ -20,9 +20,9 @@ from goo_service.records import follow
 from goo_service.records import schema
 from archives import make_archive       # it leads to service/ itself, and not to a copy of it
 from program import PROVED
-from records_trial import CODE
-from records_trial import Requests
-from records_trial import TODAY
+from acts_by_chance import CODE
+from acts_by_chance import Requests
+from acts_by_chance import TODAY
 
 GOO = os.environ.get('GOO', str(PROVED))
 SINCE = 80
@@ -81,7 +81,7 @@ def write_copy(folder: Path, requests: list[tuple[Any, ...]], hash_of_last: str)
 @pytest.fixture(scope='module')
 def night(tmp_path_factory: pytest.TempPathFactory) -> Night:
     folder = tmp_path_factory.mktemp('night')
-    requests = list(Requests(4).all(150))
+    requests: list[tuple[Any, ...]] = list(Requests(4).all(150))
     make_archive(GOO, folder / 'archive', requests, CODE, TODAY)
     entry = len(requests) - SINCE
     record = next(entries.read_archive(folder / 'archive', after=entry - 1))

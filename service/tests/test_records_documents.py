@@ -10,6 +10,7 @@ from goo_service.records.certificates import chosen_of
 from goo_service.records.documents import check_code
 from goo_service.records.documents import is_code
 from goo_service.records.files import csv_of
+from goo_service.records.parameters import page_parameter
 from hypothesis import given
 from hypothesis import settings
 from hypothesis import strategies
@@ -78,7 +79,7 @@ def test_several_cancellations_are_one_document(made: Made) -> None:
     singles = [shown(made, 'SUN', f'cancellations/{number}')[1]['text'] for number in (1, 2, 4)]
     assert of['text'] == ''.join(singles)
     status, found = made.asked(None, '/verify', number='1-2,4', code=of['code'])
-    assert (status, found['text'], len(found['documents'])) == (200, of['text'], 3)
+    assert (status, found['text'], len(found['items'])) == (200, of['text'], 3)
     for numbers in ('1,4', '1-4', '4', '1-2'):
         assert made.asked(None, '/verify', number=numbers, code=of['code'])[0] == 404
 
@@ -168,7 +169,7 @@ def test_no_row_is_lost_between_two_pages(made: Made, name: str, given: dict[str
         found += page['items']
         if page['next'] is None:
             break
-        more = {'before' if name == 'acts' else 'offset': page['next']}
+        more = {page_parameter(name): page['next']}
     whole = shown(made, ISSUER, name, limit=1000, **given)[1]['items']
     assert found == whole
     if name in ('acts', 'cancellations'):

@@ -4,8 +4,10 @@ import argparse
 import os
 import random
 import shutil
+import signal
 import sqlite3
 import sys
+import threading
 from collections.abc import Callable
 from collections.abc import Iterator
 from contextlib import closing
@@ -24,7 +26,7 @@ from made_book import CODE
 from made_book import DAY
 from made_book import Logged
 from made_book import rows_of_book
-from records_trial import Requests
+from acts_by_chance import Requests
 
 ACTS = 240
 """Requests by chance besides those that begin a country."""
@@ -130,6 +132,8 @@ def test_a_start_reads_the_new_entries_alone(tmp_path: Path,
 # -------------------------------------------------------------------- crashes
 
 STEPS = {follow.__file__, writer.__file__, resumed.__file__}
+STUCK = 120
+"""Seconds after which a child ends as by SIGKILL, wherever it is: a crash too."""
 
 
 def end_at(step: int) -> Callable[[FrameType, str, Any], Any]:
@@ -159,8 +163,11 @@ def runs_to_end(step: int, given: argparse.Namespace) -> bool:
         except BaseException:       # the parent sees that it is neither end
             os._exit(1)
         os._exit(0)
+    stuck = threading.Timer(STUCK, os.kill, (child, signal.SIGKILL))
+    stuck.start()           # a lock of another thread may be held as it forks: then it ends here
     status = os.waitstatus_to_exitcode(os.waitpid(child, 0)[1])
-    assert status in (0, 9)
+    stuck.cancel()
+    assert status in (0, 9, -signal.SIGKILL)
     return status == 0
 
 

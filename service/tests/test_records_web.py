@@ -9,18 +9,22 @@ import pytest
 from goo_service.records import follow
 from goo_service.records import parameters
 from goo_service.records import web
+from made_book import HEADER
 from made_book import Made
 from goo_service.common.rules import ISSUER
 
 ROUTES = {'acts/NUMBER': 'acts/1', 'certificates/NUMBER': 'certificates/7000000000001',
-          'cancellations/NUMBER': 'cancellations/1'}
+          'cancellations/NUMBER': 'cancellations/1', 'attachments/NUMBER': 'attachments/1'}
+TABLE = HEADER + b'k1,500000000000000012,2026-01-01,2026-01-31,5,0\n'
+"""What a route is sent that takes a table."""
 NEEDED: dict[str, dict[str, object]] = {
-    'choice': {'account': 1, 'count': 1}, 'documents': {'numbers': 1},
+    'choice': {'account': 1, 'count': 1},
+    'party': {'account': 1, 'holder': 'SUN'}, 'documents': {'numbers': 1},
     'verify': {'number': 1, 'code': 'A' * 16}}
 
 
 def path_of(route: str) -> str:
-    return '/verify' if route == 'verify' else f'/records/v1/{ROUTES.get(route, route)}'
+    return f'/{route}' if route.startswith('verify') else f'/records/v1/{ROUTES.get(route, route)}'
 
 
 @pytest.fixture
@@ -38,12 +42,16 @@ def made(tmp_path: Path) -> Made:
 
 @pytest.mark.parametrize('route', parameters.PARAMETERS)
 def test_a_parameter_that_no_route_has_is_named(made: Made, route: str) -> None:
-    given = NEEDED.get(route, {})
-    for name in ('tecnology', 'Account', 'limit ', 'before' if route != 'acts' else 'offset'):
-        status, answer = made.asked(ISSUER, path_of(route), **given, **{name: '1'})
-        assert status == 400
-        assert repr(name) in answer['error']
-    assert made.asked(ISSUER, path_of(route), **given)[0] in (200, 404)
+    given, client = {**NEEDED.get(route, {})}, made.client()
+    ask = client.post if route in web.Service(made.folder, made.folder).posted else client.get
+    head = {'GOO-Caller': ISSUER}
+    other = {'acts': 'offset', 'holdings': 'after'}.get(route, 'before')
+    for name in ('tecnology', 'Account', 'limit ', other):
+        answer = ask(path_of(route), query_string=given | {name: '1'}, headers=head)
+        assert answer.status_code == 400
+        assert repr(name) in answer.get_json()['error']
+    answer = ask(path_of(route), query_string=given, headers=head, data=TABLE)
+    assert answer.status_code in (200, 404)
 
 
 def test_a_parameter_that_is_given_twice_is_named(made: Made) -> None:

@@ -30,7 +30,8 @@ def checked(folder: Path, rows: int) -> subprocess.CompletedProcess[str]:
 
 def test_rows_that_a_table_may_have(tmp_path: Path) -> None:
     most = checked(tmp_path, 21_000)
-    assert (most.returncode, most.stdout) == (0, '21000 rows, none at fault\n')
+    assert (most.returncode, most.stdout) == (
+        0, '21000 rows, none at fault, 0.105000 MWh\n')
     more = checked(tmp_path, 21_001)
     assert more.returncode == 1
     assert more.stdout.startswith('file: It has 21,001 rows. Expected at most 21,000: split it')

@@ -100,7 +100,7 @@ def become_systemd(folder: Path, words: list[str]) -> None:
     # an index of pages takes long
     (root / 'var/lib/man-db/auto-update').unlink(missing_ok=True)
     make_units(root, words)
-    for name in ('docs', 'tools'):
+    for name in ('docs', 'tools', 'service/tests'):
         shutil.copytree(HOME / name, root / 'trial' / name)
     subprocess.run(['mount', '--bind', folder / 'out', root / 'mnt'], check=True)
     (root / 'before').mkdir()
@@ -139,7 +139,7 @@ def followed(result: Path, process: subprocess.Popen[bytes], seconds: float) -> 
 def output(folder: Path, words: list[str], seconds: float) -> str:
     """What a command prints under a systemd of its own; `folder`/out is its /mnt.
 
-    The command names files below /trial, where docs/ and tools/ are.
+    The command names files below /trial, where docs/, tools/ and service/tests/ are.
     """
     groups = own_cgroups(folder.name)
     begin = ['unshare', '-mnpfCui', '--kill-child', sys.executable, '-B', __file__, str(folder),

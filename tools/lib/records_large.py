@@ -15,7 +15,7 @@ from goo_service.log import entries
 from goo_service.log.archive import Archive
 from archives import KEY
 from client import answered, free_port, request
-from records_trial import ACCOUNTS, CODE, DEVICES, OWN, TODAY, Requests, Service
+from acts_by_chance import ACCOUNTS, CODE, DEVICES, OWN, TODAY, Requests, Service
 from goo_service.common.rules import ISSUER
 import service_commands
 
@@ -133,7 +133,7 @@ def large(tally, goo, folder, count):
     begun, into = time.monotonic(), folder / 'of-large'
     status, seconds, most = measured([*service_commands.command('goo-records'), 'follow', '--begun', str(CODE), TODAY, '1', '--archive', folder / 'large', '--into', into, '--once'])
     took, size = time.monotonic() - begun, (into / 'current').stat().st_size / 1e6 if status == 0 else 0
-    tally.check(f'a book of {acts:,} acts is made: {seconds:.1f} s of the processor, {took:.1f} s by the clock, {most:,.0f} MB of memory, a file of {size:,.0f} MB', [status] if status else [])
+    tally.check(f'a book of {acts:,} acts is made: {seconds:.1f} s of the processor, {took:.1f} s by the clock, {most:,.0f} MB of memory, a file of {size:,.0f} MB', status == 0, status)
     if status == 0:
         answers(tally, Service(into), goo, folder, both)
     print(f'load {os.getloadavg()[0]:.1f}', flush=True)
@@ -145,10 +145,10 @@ def answers(tally, service, goo, folder, both):
     for path, parameters in QUESTIONS:
         asked = parameters if '/' in path or path == 'choice' else {'limit': 1000, **parameters}
         (status, answer), told = times(lambda: service.ask(ACCOUNTS[1], f'/records/v1/{path.format(held=held)}', **asked))
-        tally.check(f'{path} {parameters or ""}: {told}', [(status, answer)] if status != 200 else [])
+        tally.check(f'{path} {parameters or ""}: {told}', status == 200, answer)
     with OwnStatement(goo, folder, both) as ask:
         text, told = times(ask)
         print(f"the registry's own statement of {ALTERNATE:,} runs: {told.rsplit(',', 1)[0]}", flush=True)
         runs, told = times(lambda: service.items(ACCOUNTS[3], 'holdings', by='run', account=3))
         own = [line for line in text.splitlines() if line.endswith(' held')]
-        tally.check(f'the same {len(own):,} runs as a list of holdings: {told}', set(statement_lines(runs)) ^ set(own) or ([] if len(own) >= ALTERNATE else [len(own)]))
+        tally.check(f'the same {len(own):,} runs as a list of holdings: {told}', set(statement_lines(runs)) == set(own) and len(own) >= ALTERNATE, len(own))

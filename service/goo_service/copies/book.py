@@ -17,7 +17,9 @@ from typing import BinaryIO
 from goo_service.common.files import write_whole
 from goo_service.common.owner import done_as_owner
 from goo_service.common.owner import remove
+from goo_service.copies import contents
 from goo_service.copies.contents import open_regular
+from goo_service.records import settings
 
 USER = 'goo-records'
 BOOK = Path(os.environ.get('GOO_BOOK') or '/var/lib/goo-records')
@@ -37,20 +39,49 @@ def place_beginning(copy: Path, n: int, configuration: Path) -> str:
     conf = configuration / 'records.conf'
     if not configuration.is_dir() or conf.exists() and not has_requests(copy / 'registry.db'):
         return ''
-    if not BOOK.is_dir():
-        try:
-            user = pwd.getpwnam(USER)
-        except KeyError:
-            return ''
-        BOOK.mkdir(mode=0o750)
-        os.chown(BOOK, user.pw_uid, user.pw_gid)
+    if not has_folder():
+        return ''
     with ExitStack() as stack:
         files: dict[str, BinaryIO] = {
             name: stack.enter_context(open_regular(copy / name)) for name in FILES}
         done_as_owner(BOOK, lambda: write_first(files))
-    write_whole(conf, '# How the book of acts begins (RECORDS.md)\n'
-                f'GOO_RECORDS_BEGIN=--copy {BOOK / FIRST} --after {n}\n', 0o644)
+    earlier = conf.read_text(encoding='utf-8') if conf.exists() else ''
+    begin = f'--copy {BOOK / FIRST} --after {n}'
+    write_whole(conf, settings.with_setting(earlier, settings.BEGIN, begin), 0o644)
     return f'{conf}: the book of acts begins with this copy, after entry {n}'
+
+
+def has_folder() -> bool:
+    """Whether the book has its folder. It is made where this host has the user of the records."""
+    if BOOK.is_dir():
+        return True
+    try:
+        user = pwd.getpwnam(USER)
+    except KeyError:
+        return False
+    BOOK.mkdir(mode=0o750)
+    os.chown(BOOK, user.pw_uid, user.pw_gid)
+    return True
+
+
+def archive_beginning(target: Path) -> None:
+    """Puts the beginning into a tar file, where the book of this host has one."""
+    if os.path.lexists(BOOK / FIRST):
+        with open(target, 'xb') as file:
+            contents.tar('--create', '--file', '-', '--one-file-system', FIRST, folder=BOOK,
+                         stdout=file)
+
+
+def put_beginning_back(archive: Path) -> bool:
+    """Whether the beginning that a tar file has is the book's now. One that is there stays."""
+    if os.path.lexists(BOOK / FIRST) or not archive.is_file() or not has_folder():
+        return False
+    part = BOOK / f'{FIRST}.part'
+    done_as_owner(BOOK, lambda: remove(part))
+    contents.unpack(archive, BOOK, f'--transform=s,^{FIRST},{part.name},')
+    contents.sync(BOOK)
+    done_as_owner(BOOK, lambda: os.rename(part, BOOK / FIRST))
+    return True
 
 
 def has_requests(database: Path) -> bool:

@@ -1,6 +1,6 @@
-"""Copies of the registry: goes back to one, recounts one, or tells the digest of its rows.
+"""Copies of the registry: goes back to one, recounts or digests one, or rehearses a bundle on one.
 
-usage: goo-copies restore | recount | digest WORD ..
+usage: goo-copies restore | recount | digest | rehearse WORD ..
 
 `goo-copies WORD --help` tells what each takes.
 """
@@ -8,9 +8,11 @@ import sys
 
 from goo_service.copies import digest
 from goo_service.copies import recount
+from goo_service.copies import rehearse
 from goo_service.copies import restore
 
-COMMANDS = {'restore': restore.main, 'recount': recount.main, 'digest': digest.main}
+COMMANDS = {'restore': restore.main, 'recount': recount.main, 'digest': digest.main,
+            'rehearse': rehearse.main}
 
 
 def main() -> int | None:

@@ -5,6 +5,7 @@ A copy is a folder that is named by its day and time in UTC, such as 2025-04-05T
   registry.db        the database; where a log is beside it, both belong together
   audit.txt          the audit of the program that made the copy
   exchange.tar       /var/lib/goo-exchange, if there is one
+  records.tar        the beginning of the book of acts, /var/lib/goo-records/first, if there is one
   configuration.tar  /etc/goo, if there is one, without the files that only their owner can read
   left-out.txt       the names of those files
   recount.txt        what recount found in it, written last

@@ -2,6 +2,7 @@
 
 copies/contents.py describes a copy, and copies/places.py its place.
 """
+import filecmp
 import os
 import shutil
 import subprocess
@@ -9,6 +10,7 @@ import time
 from collections.abc import Callable
 from pathlib import Path
 
+from goo_service.copies import book
 from goo_service.copies import contents
 from goo_service.copies.places import Place
 from goo_service.copies.places import placed_copies
@@ -21,6 +23,8 @@ from goo_service.log.hold import held
 
 EXCHANGE = Path(os.environ.get('GOO_EXCHANGE') or '/var/lib/goo-exchange')
 CONFIGURATION = Path(os.environ.get('GOO_CONFIGURATION') or '/etc/goo')
+BEGINNING = 'records.tar'
+"""Of a copy: the beginning of the book of acts."""
 HOLDS = 3
 """How often the live file is copied anew, where a copying did not end while it was held."""
 TOLD = 5
@@ -127,6 +131,7 @@ def new_copy(folder: Path, fill: Callable[[Path], Place]) -> Path:
     part.mkdir(mode=0o700)
     write_place(part, fill(part))
     archive_beside(part)
+    share_beginning(part)
     contents.write_list(part)
     contents.sync(part)
     while (copy := folder / contents.name_now()).exists():
@@ -137,10 +142,25 @@ def new_copy(folder: Path, fill: Callable[[Path], Place]) -> Path:
 
 
 def archive_beside(part: Path) -> None:
-    """What is in a copy beside the registry: the exchange's folder and the configuration."""
+    """What is in a copy beside the registry.
+
+    It is the exchange's folder, the beginning of the book of acts, and the configuration.
+    """
     left_out = contents.owner_only(CONFIGURATION) if CONFIGURATION.is_dir() else []
     if EXCHANGE.is_dir():
         contents.archive(EXCHANGE, part / 'exchange.tar')
+    book.archive_beginning(part / BEGINNING)
     if CONFIGURATION.is_dir():
         contents.archive(CONFIGURATION, part / 'configuration.tar', left_out)
     (part / 'left-out.txt').write_text(''.join(f'{name}\n' for name in left_out))
+
+
+def share_beginning(part: Path) -> None:
+    """The beginning of the book is the same each night: the copy shares the file of the one before.
+    """
+    own = part / BEGINNING
+    for before in placed_copies(part.parent)[-1:]:
+        other = before / BEGINNING
+        if own.is_file() and other.is_file() and filecmp.cmp(own, other, shallow=False):
+            own.unlink()
+            os.link(other, own)

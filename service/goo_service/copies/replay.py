@@ -15,6 +15,7 @@ from pathlib import Path
 from goo_service.common.owner import NotDone
 from goo_service.common.owner import as_owner
 from goo_service.copies.places import Place
+from goo_service.log import bundles
 from goo_service.log import entries
 from goo_service.log import roles
 from goo_service.log.entries import Broken
@@ -61,10 +62,22 @@ class Replay:
                              f'archived with status {outcome.status}')
         elif entry.route == TABLES and outcome.status == 200:
             self.add_table(record)
+        elif entry.route in bundles.ROUTES and outcome.status == 200:
+            self.add_bundle(record)
         elif (entry.route == '/v1/requests' and outcome.status in (200, 403, 409)
               and outcome.body.startswith(b'{')):
-            body = re.sub(rb'[\r\n]', b' ', entry.body)     # line ends between two words of JSON
-            self.add_line(body, Wanted(record, comparable(outcome.body)))
+            self.add_line(one_line(entry.body), Wanted(record, comparable(outcome.body)))
+
+    def add_bundle(self, record: Record) -> None:
+        """Each line of an applied bundle that the registry has decided."""
+        answers = bundles.lines_of(record.outcome.body)
+        lines = bundles.read(record.entry.body)
+        if len(lines) != len(answers):
+            raise Broken(f'entry {record.entry.n}: a bundle of {len(lines)} lines with an answer '
+                         f'of {len(answers)}')
+        for line, answer in zip(lines, answers):
+            if bundles.outcome_in(answer)['outcome'] in ('accepted', 'repeated', 'refused'):
+                self.add_line(one_line(line.body), Wanted(record, comparable(answer)))
 
     def add_table(self, record: Record) -> None:
         rows, lines = rows_of(record.entry.body), record.outcome.body.split(b'\n')[:-1]
@@ -110,6 +123,11 @@ class Replay:
             if wanted.outcome != came:
                 raise Broken(f'entry {entry.n}: archived as {shown(wanted.outcome)}, '
                              f'and the program comes to {shown(answer)}')
+
+
+def one_line(body: bytes) -> bytes:
+    """A request without the line ends that may stand between two words of JSON."""
+    return re.sub(rb'[\r\n]', b' ', body)
 
 
 def shown(text: bytes) -> str:

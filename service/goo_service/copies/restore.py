@@ -38,9 +38,10 @@ which notices of ours they have. The front door stays closed until --open, which
 too, once the exchange is settled. What is left to do is printed.
 
 /var/lib/goo-exchange is put back only where it isn't there: what is there knows more notices than
-the copy does. Where /etc/goo differs from the copy that is printed; --with-configuration puts the
-copied files in place, and what they replace goes aside. A copy of before there was a list is taken
-by --without-list, and one that recount finds at fault by --although-broken.
+the copy does; so is /var/lib/goo-records/first, with which the records of acts begin. Where
+/etc/goo differs from the copy that is printed; --with-configuration puts the copied files in place,
+and what they replace goes aside. A copy of before there was a list is taken by --without-list, and
+one that recount finds at fault by --although-broken.
 
 Exit status 0: done. 1: not done; the last line tells in which state the registry is. 2: wrong
 command line.
@@ -55,10 +56,12 @@ import sys
 from dataclasses import dataclass
 
 from goo_service.common.owner import NotDone
+from goo_service.copies import book
 from goo_service.copies import contents
 from goo_service.copies import going_back
 from goo_service.copies import host
 from goo_service.copies import new_log
+from goo_service.copies import nightly
 from goo_service.copies import undo
 from goo_service.copies.host import show
 from goo_service.copies.places import FILE as PLACE
@@ -144,6 +147,8 @@ def put_back(plan: Plan, staged: pathlib.Path, placed: pathlib.Path | None,
              ran: list[str]) -> list[str]:
     """The copy becomes the registry; what is left to do."""
     going_back.put_exchange_back(plan.copy)
+    if book.put_beginning_back(plan.copy / nightly.BEGINNING):
+        show(f'{book.BOOK / book.FIRST}, the beginning of the book of acts, is that of the copy')
     generation = going_back.begin_generation(plan.copy) if plan.loses() else None
     show(f'what there was of the registry is in {going_back.change_files(staged)}')
     things = going_back.compare_configuration(plan.copy, plan.with_configuration)
@@ -184,15 +189,20 @@ def restore(plan: Plan) -> None:
 
 
 def reopen(unsettled: bool) -> None:
-    """Opens the front door and starts the timers, unless the exchange is not settled."""
+    """Opens the front door and starts the timers, unless the exchange is not settled.
+
+    The timers wait for the log: a date that is sent before it takes requests would fail.
+    """
     if (host.EXCHANGE / 'restored.json').exists() and not unsettled:
         raise contents.Unfit('the exchange is not settled yet: systemctl start goo-exchange, and '
                              'see what it says. --open --unsettled opens all the same; '
                              'certificates may then have two homes')
     host.open_door()
-    timers = [timer for timer in host.TIMERS if host.is_enabled(timer)]
-    host.systemctl('start', host.REGISTRY_UNIT, host.REPLICA, *timers)
-    show('the front door is open, and the timers run')
+    host.systemctl('start', host.REGISTRY_UNIT, host.REPLICA)
+    show(f'the front door is open: {host.wait_for_log()}')
+    if timers := [timer for timer in host.TIMERS if host.is_enabled(timer)]:
+        host.systemctl('start', *timers)
+    show('the timers run')
 
 
 def parser() -> argparse.ArgumentParser:

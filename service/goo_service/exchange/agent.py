@@ -36,6 +36,7 @@ import sys
 from dataclasses import dataclass
 from pathlib import Path
 
+from goo_service.exchange.accounts import Directory
 from goo_service.exchange.common import Again
 from goo_service.exchange.common import log
 from goo_service.exchange.common import read_text
@@ -56,6 +57,7 @@ class Configuration:
     registry: Registry
     key: Key
     peers: list[Peer]
+    directory: Directory | None
 
 
 def read_configuration(path: Path) -> Configuration:
@@ -66,7 +68,8 @@ def read_configuration(path: Path) -> Configuration:
     peers = [Peer(int(name.split()[1]), config[name])
              for name in config.sections() if PEER.fullmatch(name)]
     key = Path(config['registry'].get('key', '/etc/goo/exchange.key'))
-    return Configuration(Registry(config['registry']), Key(key), peers)
+    own = config['registry']
+    return Configuration(Registry(own), Key(key), peers, Directory.of(own))
 
 
 def words() -> argparse.ArgumentParser:
@@ -122,7 +125,8 @@ def run_alone(given: argparse.Namespace, configured: Configuration) -> int:
             return 0
         registry, key = configured.registry, configured.key
         outbox = Outbox(given.folder / 'outbox', registry.code, key)
-        return run(Ours(given.folder, registry, key, outbox), configured.peers, given)
+        ours = Ours(given.folder, registry, key, outbox, directory=configured.directory)
+        return run(ours, configured.peers, given)
 
 
 def main() -> int:

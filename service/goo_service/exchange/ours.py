@@ -2,6 +2,7 @@
 from dataclasses import dataclass
 from pathlib import Path
 
+from goo_service.exchange.accounts import Directory
 from goo_service.exchange.outbox import Outbox
 from goo_service.exchange.registry import Registry
 from goo_service.exchange.signature import Key
@@ -17,6 +18,8 @@ class Ours:
     outbox: Outbox
     generation: int = 0
     restoring: bool = False
+    directory: Directory | None = None
+    """Our accounts, where our issuing body publishes them."""
 
     @property
     def code(self) -> int:

@@ -4,6 +4,7 @@
   state           which of its generations we are, how many notices there are, and what became of
                   its own (inbox.py)
   taken-1 ..      its own notices, as we have them (inbox.py)
+  accounts        our accounts with their holders, where we publish them (accounts.py)
   NAME.sig        the signature of the file NAME
 """
 import bisect
@@ -102,6 +103,11 @@ class Outbox:
         second."""
         write_whole(self.place(peer, f'{name}.sig'), self.key.signature(text))
         write_whole(self.place(peer, name), text)
+
+    def remove(self, peer: int, name: object) -> None:
+        """A file for a peer is there no more."""
+        for file in (self.place(peer, name), self.place(peer, f'{name}.sig')):
+            file.unlink(missing_ok=True)
 
     def highest(self, peer: int) -> int:
         """How many notices for a peer stand there in order."""

@@ -9,6 +9,9 @@ from dataclasses import dataclass
 from pathlib import Path
 from typing import Any
 
+from goo_service.exchange.accounts import NAME
+from goo_service.exchange.accounts import Account
+from goo_service.exchange.accounts import parse_accounts
 from goo_service.exchange.common import Again
 from goo_service.exchange.common import LARGEST
 from goo_service.exchange.signature import is_signed
@@ -175,6 +178,11 @@ class Peer:
             raise Again('it shows us no outbox of ours: has its list of callers our user as a '
                         'peer, and has its exchange run?')
         return parse_state(found.text, self.code, addressee)
+
+    def fetch_accounts(self, addressee: int) -> list[Account] | None:
+        """The accounts that it publishes for us; None where it publishes none."""
+        found = self.fetch_signed(NAME, self.key)
+        return None if found is None else parse_accounts(found.text, self.code, addressee)
 
     def fetch_notice(self, position: int) -> Signed:
         """What stands for us at a position, and its signature."""

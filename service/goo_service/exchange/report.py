@@ -5,6 +5,7 @@ from collections.abc import Iterator
 from typing import Any
 
 from goo_service.common.files import write_whole
+from goo_service.exchange.accounts import Kept
 from goo_service.exchange.common import Again
 from goo_service.exchange.common import Notice
 from goo_service.exchange.common import Refused
@@ -98,4 +99,5 @@ def peer_of(ours: Ours, peer: int, visit: Visit | None) -> Row:
     of = inbox.record if inbox else Record()
     return {'registry': peer, 'generation': of.generation, 'contact': of.contact or None,
             'trouble': visit.left if visit else [], 'sent': list(sent_rows(ours, peer, of.told)),
-            'received': list(received_rows(inbox)) if inbox else []}
+            'received': list(received_rows(inbox)) if inbox else [],
+            'accounts': Kept(ours.folder, peer).read()}

@@ -4,6 +4,7 @@ import functools
 import threading
 from collections.abc import Callable
 
+from goo_service.exchange import accounts
 from goo_service.exchange import orders
 from goo_service.exchange.common import Again
 from goo_service.exchange.common import log
@@ -107,6 +108,7 @@ def exchange(ours: Ours, visits: list[Visit], generation: Generation) -> list[st
             'published or imported')
         return [f'notice {ahead} is lost']
     left = publish(ours, was_restoring)
+    left += accounts.publish(ours.directory, ours.outbox, [visit.code for visit in visits])
     if not was_restoring:
         with_each(visits, Visit.collect)
     return left

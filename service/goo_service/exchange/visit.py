@@ -2,6 +2,7 @@
 import contextlib
 from collections.abc import Callable
 
+from goo_service.exchange.accounts import Kept
 from goo_service.exchange.common import Again
 from goo_service.exchange.common import MOST
 from goo_service.exchange.common import Notice
@@ -79,8 +80,8 @@ class Visit:
         """Delivers what waits and may go in now, then what has come for us."""
         if self.opened is None:
             return
-        for step in (self.deliver_again, self.verify_last, self.fetch, self.log_waiting,
-                     self.log_ours):
+        for step in (self.deliver_again, self.verify_last, self.fetch, self.fetch_accounts,
+                     self.log_waiting, self.log_ours):
             self.attempt(step)
         self.peer.close()
 
@@ -168,6 +169,14 @@ class Visit:
             inbox.write_fetched(position, found.text, found.signature)
             self.deliver(position, found.text, was_imported)
         self.verify_state(self.state)
+
+    def fetch_accounts(self) -> None:
+        """Keeps the accounts that it publishes, or that it publishes none."""
+        if self.state is None:
+            return
+        self.peer.begin()
+        kept, shown = Kept(self.ours.folder, self.code), self.peer.fetch_accounts(self.ours.code)
+        kept.write(shown)
 
     def deliver(self, position: int, text: str, is_released: bool = False) -> None:
         """Imports a notice that was fetched, and notes what became of it."""

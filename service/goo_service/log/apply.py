@@ -14,14 +14,18 @@ import sys
 import time
 import traceback
 from collections import deque
+from collections.abc import Callable
 from collections.abc import Iterable
 from pathlib import Path
 from typing import Any
 from typing import NoReturn
+from typing import TypeVar
 
+from goo_service.log import bundles
 from goo_service.log import ends
 from goo_service.log import entries
 from goo_service.log import roles
+from goo_service.log import underway
 from goo_service.log.archive import Archive
 from goo_service.log.entries import Entry
 from goo_service.log.entries import Outcome
@@ -39,6 +43,8 @@ from goo_service.log.registry import SOON
 from goo_service.log.registry import Answer
 from goo_service.log.registry import EntryCalls
 
+ALIVE = 1.0
+"""Seconds after which the first process hears that a bundle goes on."""
 KEPT = 256
 """Entries at most between two syncs of the place."""
 TOGETHER = 8
@@ -49,6 +55,10 @@ ASIDE = Answer(entries.SET_ASIDE, 'text/plain; charset=utf-8', b'Set aside\n')
 NOT_ALLOWED = Answer(403, 'text/plain; charset=utf-8', b'Forbidden\n')
 MOVED = Answer(200, '', b'')
 """The answer to an entry that moves the version."""
+NO_BUNDLE = Answer(400, 'text/plain; charset=utf-8', b'Bad Request\n')
+REHEARSED = Answer(200, '', b'')
+"""Each line of a bundle would be accepted."""
+Written = TypeVar('Written')
 
 
 def is_plain(entry: Entry, status: int) -> bool:
@@ -65,6 +75,7 @@ class Applier:
         self.place = Place(state / 'place')
         self.archive = Archive(state / 'archive', key)
         self.place.read(self.archive.last and self.archive.last.entry.n)
+        self.refusals = underway.Refusals(state / 'bundle')
         self.registry, self.frames = EntryCalls(options.registry, self.wait_for), Frames()
         self.poll = select.poll()
         self.poll.register(pair, select.POLLIN)
@@ -74,6 +85,7 @@ class Applier:
         self.verdict = ''                       # what it says of an entry that failed
         self.version, self.halted, self.why = '', False, ''
         self.held = False                       # nothing is applied: the registry's file is copied
+        self.told = 0.0                         # when the first process heard that a bundle goes on
 
     # -------------------------------------------------------------- the pair
 
@@ -235,23 +247,72 @@ class Applier:
         return MOVED if entry.method == 'VERSION' else self.decide(entry)
 
     def decide(self, entry: Entry) -> Answer:
-        """The registry's outcome; while it has none, the same entry again.
-
-        What the entry's role does not allow does not reach it.
-        """
+        """The registry's outcome. What the entry's role does not allow does not reach it."""
         if not roles.allows(entry.role, entry.method, entry.route, entry.body):
             return NOT_ALLOWED
+        if entry.route in bundles.ROUTES:
+            return self.bundle(entry)
+        return self.outcome_of(entry, lambda: self.registry.call(
+            'POST', entry.route, entry.caller, entry.body, self.meanwhile)) or ASIDE
+
+    def outcome_of(self, entry: Entry, call: Callable[[], Answer]) -> Answer | None:
+        """What a call comes to that is made until it has an outcome; None where it is set aside."""
         while True:
             try:
-                answer = self.registry.call('POST', entry.route, entry.caller, entry.body,
-                                            self.meanwhile)
+                answer = call()
                 if answer.status in OUTCOMES:
                     return answer
                 why = f'answered {answer.status}'
             except BROKEN as fault:
                 why = f'{type(fault).__name__} {fault}'.strip()
             if self.is_given_up(entry, why):
-                return ASIDE
+                return None
+
+    # -------------------------------------------------------------- a bundle
+
+    def bundle(self, entry: Entry) -> Answer:
+        """The outcome of a bundle: refused whole, or of each of its lines."""
+        try:
+            bundles.read(entry.body)
+        except bundles.Unreadable:              # a door of another version has let it in
+            return NO_BUNDLE
+        if entry.route == bundles.WHOLE:
+            refused = self.outcome_of(entry, lambda: self.rehearse(entry))
+            if refused is not REHEARSED:
+                return refused or ASIDE
+        kept = self.written_at_last(lambda: self.refusals.begin(underway.mark_of(entry)))
+        return underway.applied(entry, kept, self.keep_refusal,
+                                lambda body, goes_on: self.send_line(entry, body, goes_on))
+
+    def rehearse(self, entry: Entry) -> Answer:
+        """What a bundle would come to, by the records as they are between two entries."""
+        self.registry.close()
+        self.settle()
+        address = self.options.rehearsal
+        return underway.rehearsed(address, entry, self.wait_for) or REHEARSED
+
+    def send_line(self, entry: Entry, body: bytes, goes_on: bool) -> Answer | None:
+        """The outcome of one line. The first process takes requests meanwhile."""
+        if time.monotonic() - self.told > ALIVE:
+            self.told = time.monotonic()
+            self.send('alive')
+        meanwhile = self.registry.connect_ahead if goes_on else self.meanwhile
+        return self.outcome_of(entry, lambda: self.registry.call(
+            'POST', '/v1/requests', entry.caller, body, meanwhile))
+
+    def keep_refusal(self, number: int, body: bytes) -> None:
+        self.written_at_last(lambda: self.refusals.keep(number, body))
+
+    def written_at_last(self, write: Callable[[], Written]) -> Written:
+        """What is written once the disk has room."""
+        while True:
+            try:
+                made = write()
+                self.wait_because('')
+                return made
+            except OSError as fault:
+                self.wait_because(f'the state of a bundle cannot be written: {fault}')
+                self.listen(0.5)
 
     def is_given_up(self, entry: Entry, why: str) -> bool:
         """Whether an entry without an outcome is set aside: the first process decides it."""

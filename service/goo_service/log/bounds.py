@@ -9,12 +9,15 @@ import datetime
 import json
 import re
 
+from goo_service.log import bundles
+
 ISSUER = 'ISSUER'
 TABLES, REQUESTS = '/v1/declarations', '/v1/requests'
 BODY = 1 << 20                  # bytes of any body: the registry's own limit
 ROWS = 21_000                   # rows of a table: BODY has no more, with keys of four letters
 REQUEST = 64 << 10              # bytes of a request; an import by the issuing body may have BODY
-DAY = 32 << 20                  # bytes of a holder's entries in a day (UTC)
+DAY = 64 << 20                  # bytes of a holder's entries in a day (UTC)
+USER = 16 << 20                 # of them, those of one user: the others of his holder have the rest
 READER = json.JSONDecoder(parse_int=str, parse_float=str)
 DATE = re.compile('[0-9]{4}-[0-9]{2}-[0-9]{2}')
 
@@ -74,8 +77,17 @@ def members(body: bytes) -> dict[str, object]:
     return read if isinstance(read, dict) else {}
 
 
-def of_request(caller: str, body: bytes, today: datetime.date, confirmed: str) -> Refusal | None:
-    """`today` is the host's own day, `confirmed` the day that was confirmed there, or no text.
+@dataclasses.dataclass(frozen=True)
+class Host:
+    """What a host says of itself: its day, the day that was confirmed on it, closed registries."""
+
+    today: datetime.date
+    confirmed: str = ''
+    closed: frozenset[str] = frozenset()
+
+
+def of_request(caller: str, body: bytes, host: Host) -> Refusal | None:
+    """Of a request by itself.
 
     The issuing body's requests alone are read: no other caller imports notices or moves the date.
     """
@@ -84,9 +96,28 @@ def of_request(caller: str, body: bytes, today: datetime.date, confirmed: str) -
     if len(body) > REQUEST and command != 'import':
         return Refusal(413, f'the request has {len(body)} bytes; at most {REQUEST} are taken, '
                             f'and {BODY} of an import by the issuing body')
-    if command == 'advance' and is_later(day, today) and confirmed != day:
-        return Refusal(403, f'the day {day} is after the day of the host, {today}: '
+    if command == 'advance' and is_later(day, host.today) and host.confirmed != day:
+        return Refusal(403, f'the day {day} is after the day of the host, {host.today}: '
                             f'such a move of the date has to be confirmed on the host')
+    notice = read.get('notice')
+    sender = notice.get('sender') if command == 'import' and isinstance(notice, dict) else None
+    if isinstance(sender, str) and sender in host.closed:
+        return Refusal(403, f'registry {sender} is closed: its notices are taken no more')
+    return None
+
+
+def of_bundle(caller: str, body: bytes, is_whole: bool, host: Host) -> Refusal | None:
+    """Of a bundle: its form, its lines, and each of them as a request by itself."""
+    try:
+        lines = bundles.read(body)
+    except bundles.Unreadable as fault:
+        return Refusal(413 if body.count(b'\n') > bundles.LINES else 400, str(fault))
+    for line in lines:
+        if refusal := of_request(caller, line.body, host):
+            return Refusal(refusal.status, f'line {line.number}: {refusal.error}')
+        if is_whole and line.command not in bundles.TRIED:
+            return Refusal(400, f'line {line.number}: a bundle that is applied whole or not at all '
+                                f'has these commands alone: {", ".join(bundles.TRIED)}')
     return None
 
 
@@ -95,13 +126,18 @@ def is_later(day: object, today: datetime.date) -> bool:
     return isinstance(day, str) and bool(DATE.fullmatch(day)) and day > today.isoformat()
 
 
-def of_day(caller: str, sent: int, size: int, now: datetime.datetime) -> Refusal | None:
-    """Of an entry of `size` bytes, where the caller's entries have `sent` bytes today (UTC)."""
-    if caller == ISSUER or sent + size <= DAY:
-        return None
-    return Refusal(429, f'{caller} has put {sent} bytes into the log today, and this entry has '
-                        f'{size}; a holder may put {DAY} bytes into the log in a day (UTC)',
-                   seconds_left(now))
+def of_day(caller: str, sent: int, by_user: int, size: int,
+           now: datetime.datetime) -> Refusal | None:
+    """Of an entry of `size` bytes, where the caller's entries have `sent` bytes today (UTC).
+
+    Those of its user have `by_user`.
+    """
+    for who, had, most in ((caller, sent, DAY), (f'this user of {caller}', by_user, USER)):
+        if caller != ISSUER and had + size > most:
+            return Refusal(429, f'{who} has put {had} bytes into the log today, and this entry has '
+                                f'{size}; at most {most} bytes are taken in a day (UTC)',
+                           seconds_left(now))
+    return None
 
 
 def seconds_left(now: datetime.datetime) -> int:

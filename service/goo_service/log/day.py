@@ -1,4 +1,6 @@
-"""How many bytes each holder's entries have in the log on this day (UTC), for bounds.of_day.
+"""How many bytes the entries of each holder, and of each user, have in the log on this day (UTC).
+
+It is for bounds.of_day.
 
 Each entry is counted once, as it is given to the process that applies it, whichever host took it.
 The counts and the last entry in them are kept in a file, at most a second behind. At a start the
@@ -15,8 +17,15 @@ import re
 from goo_service.common.files import write_whole
 
 HEAD = 8192
-"""Bytes of a line in which time and caller stand."""
-MEMBERS = re.compile(rb'"time":"([^"]*)".*?"caller":("(?:[^"\\]|\\.)*")')
+"""Bytes of a line in which time, user and caller stand."""
+TEXT = rb'"(?:[^"\\]|\\.)*"'
+MEMBERS = re.compile(rb'"time":"([^"]*)","host":%b,"user":(%b),.*?"caller":(%b)'
+                     % (TEXT, TEXT, TEXT))
+
+
+def names_of(caller: str, user: str) -> tuple[str, str]:
+    """Under which names an entry counts: its holder's, and its user's. A code has no blank."""
+    return caller, f'{caller} {user}'
 
 
 def now() -> datetime.datetime:
@@ -25,7 +34,7 @@ def now() -> datetime.datetime:
 
 @dataclasses.dataclass
 class Sent:
-    """What each caller has sent on a day."""
+    """What each caller, and each of its users, has sent on a day."""
 
     path: pathlib.Path
     entry: int
@@ -35,10 +44,12 @@ class Sent:
     waiting: collections.Counter[str] = dataclasses.field(default_factory=collections.Counter)
     saved: bool = True
 
-    def of(self, caller: str) -> int:
-        """What a caller has sent today, with the requests that wait to get into the log."""
+    def of(self, caller: str, user: str) -> tuple[int, int]:
+        """What a caller and its user have sent today, with the requests that wait to be logged."""
         self.turn()
-        return self.logged.get(caller, 0) + self.waiting[caller]
+        by_caller, by_user = (self.logged.get(name, 0) + self.waiting[name]
+                              for name in names_of(caller, user))
+        return by_caller, by_user
 
     def turn(self) -> None:
         """Begins the day, where it is another one."""
@@ -54,18 +65,19 @@ class Sent:
         self.entry, self.saved = n, False
         found = MEMBERS.search(line[:HEAD])
         if found and found[1][:10].decode() == self.day:
-            caller = json.loads(found[2])
-            self.logged[caller] = self.logged.get(caller, 0) + len(line)
+            for name in names_of(json.loads(found[3]), json.loads(found[2])):
+                self.logged[name] = self.logged.get(name, 0) + len(line)
 
-    def hold(self, caller: str, size: int) -> None:
+    def hold(self, caller: str, user: str, size: int) -> None:
         """A request waits, whose entry will have so many bytes."""
-        self.waiting[caller] += size
+        self.waiting.update(dict.fromkeys(names_of(caller, user), size))
 
-    def release(self, caller: str, size: int) -> None:
+    def release(self, caller: str, user: str, size: int) -> None:
         """The request is in the log, or will never be."""
-        self.waiting[caller] -= size
-        if not self.waiting[caller]:
-            del self.waiting[caller]
+        for name in names_of(caller, user):
+            self.waiting[name] -= size
+            if not self.waiting[name]:
+                del self.waiting[name]
 
     def save(self) -> None:
         """Each second, so not synced: after a power failure the file may be older, or empty."""

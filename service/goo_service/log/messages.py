@@ -18,6 +18,7 @@ The second one sends
   ('place', n, hash, chain)      up to here all is applied
   ('ready',)                     the archive is applied whole
   ('applied', [..])              of each entry: n, hash, chain, id, status, kind, body
+  ('alive',)                     the bundle in hand goes on
   ('failed', entry, why)         the registry gave no outcome: what now?
   ('waits', why)                 why it waits; '' once it goes on
   ('halted', why)                for good

@@ -5,6 +5,8 @@ from dataclasses import dataclass
 from dataclasses import field
 from pathlib import Path
 
+from goo_service.log.closed import PATH
+
 STATE = '/var/lib/goo-replica'
 
 
@@ -46,6 +48,10 @@ class Options(EtcdOptions):
         'help': "entries between two digests, over etcd; each takes a copy of the registry's file"})
     rows: str = field(default='/run/goo/rows.sock', metadata={
         'help': "who copies the registry's file and digests its rows, over etcd"})
+    rehearsal: str = field(default='/run/goo/rehearsal.sock', metadata={
+        'help': "who rehearses a bundle on a copy of the registry's file"})
+    closed: str = field(default=PATH, metadata={
+        'help': 'the file with the codes of registries whose notices are taken no more'})
     strict: bool = field(default=False, metadata={
         'help': 'a read that may be stale is answered 503'})
     reads_only: bool = field(default=False, metadata={

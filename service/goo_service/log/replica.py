@@ -394,6 +394,10 @@ class Replica:
         if self.has_work():
             self.work.set()
 
+    def on_alive(self) -> None:
+        """A long bundle is no entry that is stuck."""
+        self.busy, self.stuck, self.pause = time.monotonic(), None, PAUSE
+
     def wake_readers(self, last: int) -> None:
         for n, future in self.readers:
             if n <= last and not future.done():

@@ -26,6 +26,7 @@ from goo_service.common.client import NoAnswer
 from goo_service.common.files import sync_folder
 from goo_service.common.files import write_whole
 from goo_service.common.owner import remove
+from goo_service.log import bundles
 from goo_service.log import entries
 from goo_service.log import file_store
 from goo_service.log import position
@@ -66,7 +67,9 @@ def shown(body: bytes) -> str:
 
 
 def named(entry: entries.Entry) -> str:
-    """A request in few words: its command and key, or that it is a table."""
+    """A request in few words: its command and key, or that it is a table or a bundle."""
+    if entry.route in bundles.ROUTES:
+        return f'a bundle of {len(bundles.lines_of(entry.body))} requests'
     try:
         request = json.loads(entry.body) if entry.route == '/v1/requests' else None
         return f'{request["command"]} {request["key"]}' if request else 'a table of declarations'

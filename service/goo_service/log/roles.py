@@ -4,18 +4,23 @@ The third word of a line in callers is the role; nginx sends it on as GOO-Role.
 """
 import json
 
+from goo_service.log import bundles
+
 
 def allows(role: str, method: str, route: str, body: bytes) -> bool:
     """`full`, or no word: everything the registry allows.
 
-    `reads`: GET alone. `declares`: declarations alone. Another word: nothing.
+    `reads`: GET alone. `declares`: declarations alone, in each line of a bundle too. Another word:
+    nothing.
     """
     if role in ('', 'full'):
         return True
     if role == 'reads':
         return method == 'GET'
-    return (role == 'declares' and method == 'POST'
-            and (route == '/v1/declarations' or command_of(body) == 'declare'))
+    if role != 'declares' or method != 'POST':
+        return False
+    bodies = bundles.lines_of(body) if route in bundles.ROUTES else [body]
+    return route == '/v1/declarations' or all(command_of(one) == 'declare' for one in bodies)
 
 
 def command_of(body: bytes) -> object:

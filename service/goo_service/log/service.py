@@ -5,14 +5,18 @@ import datetime
 import json
 import time
 from collections.abc import Coroutine
+from pathlib import Path
 from typing import TYPE_CHECKING
 from typing import Any
 
 from goo_service.log import bounds
+from goo_service.log import bundles
 from goo_service.log import day
 from goo_service.log import entries
 from goo_service.log import health
 from goo_service.log import roles
+from goo_service.log import underway
+from goo_service.log.closed import closed_in
 from goo_service.log.door import Call
 from goo_service.log.door import Fields
 from goo_service.log.door import Reply
@@ -29,7 +33,9 @@ from goo_service.log.waiting import Waiting
 if TYPE_CHECKING:
     from goo_service.log.replica import Replica
 
-WRITES = (bounds.REQUESTS, bounds.TABLES)
+WRITES = (bounds.REQUESTS, bounds.TABLES, *bundles.ROUTES)
+ROOM = 10
+"""Seconds after which a bundle may be sent again that could not be rehearsed."""
 READ = 2
 """Seconds that a read waits for the entries before it."""
 WIDEST = 10 ** 9
@@ -108,7 +114,12 @@ class Service:
         """
         if call.target == bounds.TABLES:
             return bounds.of_table(call.body)
-        return bounds.of_request(call.caller, call.body, datetime.date.today(), call.confirmed)
+        closed = closed_in(Path(self.replica.options.closed))
+        host = bounds.Host(datetime.date.today(), call.confirmed, closed)
+        if call.target in bundles.ROUTES:
+            is_whole = call.target == bundles.WHOLE
+            return bounds.of_bundle(call.caller, call.body, is_whole, host)
+        return bounds.of_request(call.caller, call.body, host)
 
     # -------------------------------------------------------------- writes
 
@@ -126,10 +137,25 @@ class Service:
             return reply(plain(503), {})
         if replica.journal.is_aside(call.caller, call.target, call.body):
             return reply(plain(entries.SET_ASIDE, 'Set aside'), {})
-        request = Waiting(call, reply)
+        if call.target == bundles.WHOLE:
+            return self.keep(self.take_whole(call, reply))
+        self.take(call, reply)
+
+    async def take_whole(self, call: Call, reply: Reply) -> None:
+        """A bundle that has to be rehearsed is no entry while there is no room for a rehearsal.
+
+        In the log it would hold up all that comes after it.
+        """
+        if why := await underway.no_room(self.replica.options.rehearsal, call.caller):
+            return self.refuse(bounds.Refusal(503, why, ROOM), reply)
+        self.take(call, reply)
+
+    def take(self, call: Call, reply: Reply) -> None:
+        """A write that may become an entry, where its user and its holder have bytes left."""
+        replica, request = self.replica, Waiting(call, reply)
         request.size = self.size_of(request)
-        sent = replica.requests.sent.of(call.caller)
-        if refusal := bounds.of_day(call.caller, sent, request.size, day.now()):
+        sent = replica.requests.sent.of(call.caller, call.user)
+        if refusal := bounds.of_day(call.caller, *sent, request.size, day.now()):
             return self.refuse(refusal, reply)
         replica.requests.add(request)
         if replica.is_alone():

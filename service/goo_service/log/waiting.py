@@ -77,7 +77,7 @@ class Requests:
         return len(self.pending) >= QUEUE or self.held > HELD
 
     def add(self, request: Waiting) -> None:
-        self.sent.hold(request.call.caller, request.size)
+        self.sent.hold(request.call.caller, request.call.user, request.size)
         request.counted = request.size
         self.pending[request.id] = request
         self.held += request.size
@@ -107,7 +107,7 @@ class Requests:
     def release(self, request: Waiting | None) -> None:
         """Its bytes no longer wait: they are counted in the log, or never will be."""
         if request and request.counted:
-            self.sent.release(request.call.caller, request.counted)
+            self.sent.release(request.call.caller, request.call.user, request.counted)
             request.counted = 0
 
     def finish(self, request: Waiting, answer: Answer) -> None:

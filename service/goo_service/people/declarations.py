@@ -1,6 +1,6 @@
 """Reads a file of declarations before it is sent, and tells each field at fault.
 
-usage: goo-check-declarations FILE
+usage: goo-check-declarations [--devices CSV] [--declared CSV] FILE
 
 With a fault goes the reason, and what was expected. A period that a device has declared shuts out
 every earlier one for good. So a file with one bad row loses that row's production as soon as a
@@ -11,10 +11,19 @@ auxiliaries of no more than the gross production, a key of its own for each row,
 device's periods. A table has 21,000 rows at most: the log in front of the registry takes no longer
 one.
 
+Where nothing is at fault, the sum in MWh is told. With the list of devices, as the page or the
+records save it (/records/v1/devices?format=csv), the mean load factor is told too, and what is
+doubtful about the energy is asked: a row below a thousandth of its device's capacity or above what
+is plausible. With the list of declarations (/records/v1/declarations?format=csv) rows and file are
+held against what the devices made before: a file in kWh is asked about. A program whose user has
+the role `declares` asks the same by POST of the file to /records/v1/doubts. A doubt forbids
+nothing.
+
 Rows are numbered as in the registry's report: row 1 is the first below the header. Exit status 0
-where nothing is at fault, 1 where something is, 2 for a usage error, and 3 where the file can't be
+where nothing is at fault, 1 where something is, 2 for a usage error, and 3 where a file can't be
 read.
 """
+import argparse
 import calendar
 import csv
 import io
@@ -25,8 +34,10 @@ from dataclasses import dataclass
 from dataclasses import field
 from pathlib import Path
 from typing import NamedTuple
+from typing import NoReturn
 
 from goo_service.log.bounds import ROWS as MOST_ROWS
+from goo_service.people import doubts
 
 HEADER = 'key,device,first_day,last_day,gross_wh,aux_wh'
 FIELDS = {'key': 'key', 'device': 'gsrn', 'first_day': 'day', 'last_day': 'day', 'gross_wh': 'wh',
@@ -217,24 +228,89 @@ def place_of(rows: list[list[str]], fault: Fault) -> str:
     return f'row {fault.row}, {fault.field}{f" {ascii(value[:40])}" if value else ""}'
 
 
+def saved(name: str | None, wanted: tuple[str, ...]) -> list[dict[str, str]]:
+    """The rows of a list that was saved as CSV; none where none is given."""
+    if name is None:
+        return []
+    with open(name, encoding='utf-8-sig', newline='') as file:
+        rows = csv.DictReader(file)
+        if lacking := sorted(set(wanted) - set(rows.fieldnames or ())):
+            raise ValueError(f'there is no column {", ".join(lacking)}')
+        return list(rows)
+
+
+def known_of(devices: str | None, declared: str | None) -> dict[str, doubts.Device]:
+    """The devices of a saved list, with the periods of another one."""
+    periods: dict[str, list[doubts.Period]] = {}
+    for of in saved(declared, DECLARED):
+        net = int(of['gross_wh']) - int(of['aux_wh']) - int(of['corrected_wh'] or 0)
+        periods.setdefault(of['device'], []).append(
+            doubts.Period(of['first_day'], of['last_day'], net))
+    return {of['gsrn']: doubts.Device(
+                int(of['capacity_w']), of['tech'],
+                tuple(sorted(periods.get(of['gsrn'], []), key=lambda period: period.first_day,
+                             reverse=True)))
+            for of in saved(devices, DEVICES)}
+
+
+DEVICES = 'gsrn', 'capacity_w', 'tech'
+DECLARED = 'device', 'first_day', 'last_day', 'gross_wh', 'aux_wh', 'corrected_wh'
+"""The columns of saved lists that are read."""
+
+
+def tell_energy(rows: list[list[str]], known: dict[str, doubts.Device]) -> None:
+    """The end of the last line about a file without faults, and what is asked about it."""
+    energy = doubts.energy_of(doubts.rows_of(rows), known)
+    mwh = f'{energy.net_wh // 1_000_000:,}.{energy.net_wh % 1_000_000:06} MWh'
+    factor = energy.factor
+    mean = '' if factor is None else f', mean load factor {doubts.percent(factor)}'
+    print(f', {mwh}{mean}')
+    for doubt in energy.doubts:
+        place = f'row {doubt.row}, key {rows[doubt.row - 1][0]!r}' if doubt.row else 'file'
+        print(f'is it meant? {place}: {doubts.text_of(doubt)}')
+
+
+class Words(argparse.ArgumentParser):
+    """The words of the command line. What is wrong with them is told with all that is known."""
+
+    def error(self, message: str) -> NoReturn:
+        sys.exit(end(f'{__doc__}\ncheck-declarations: {message}', 2))
+
+
+def given_words() -> argparse.Namespace:
+    words = Words(prog='goo-check-declarations', add_help=False)
+    words.add_argument('-h', '--help', action='store_true')
+    words.add_argument('--devices')
+    words.add_argument('--declared')
+    words.add_argument('file', nargs='?')
+    given = words.parse_args()
+    if given.help or not given.file:
+        sys.exit(end(__doc__, 0 if given.help else 2))
+    return given
+
+
 def main() -> int:
-    words = sys.argv[1:]
-    if words in (['-h'], ['--help']) or len(words) != 1 or words[0].startswith('-'):
-        return end(__doc__, 0 if words in (['-h'], ['--help']) else 2)
+    given = given_words()
     try:
-        data = Path(words[0]).read_bytes()
+        data = Path(given.file).read_bytes()
     except OSError as error:
-        return end(f'check-declarations: {words[0]}: {error.strerror}', 3)
+        return end(f'check-declarations: {given.file}: {error.strerror}', 3)
     if len(data) > MOST_BYTES:
-        return end(f'check-declarations: {words[0]}: {len(data):,} bytes. Expected at most '
+        return end(f'check-declarations: {given.file}: {len(data):,} bytes. Expected at most '
                    f'{MOST_BYTES:,}: split it, each part with the header', 1)
+    try:
+        known = known_of(given.devices, given.declared)
+    except (OSError, ValueError, csv.Error) as error:
+        return end(f'check-declarations: the saved lists: {error}', 3)
     rows, faults = read(data.decode('utf-8', 'replace'))
     for fault in faults:
         print(f'{place_of(rows, fault)}: {fault.reason}')
     at_fault = len({fault.row for fault in faults})
-    hint = ': do not send the file' if faults else ''
+    hint = ': do not send the file\n' if faults else ''
     count = f'{len(rows)} row{"" if len(rows) == 1 else "s"}'
-    print(f'{count}, {at_fault or "none"} at fault{hint}')
+    print(f'{count}, {at_fault or "none"} at fault{hint}', end='')
+    if not faults:
+        tell_energy(rows, known)
     return 1 if faults else 0
 
 

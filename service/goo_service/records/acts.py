@@ -2,6 +2,7 @@
 import bisect
 import sqlite3
 from collections.abc import Iterator
+from dataclasses import dataclass
 from typing import Any
 
 from goo_service.records.questions import Condition
@@ -17,13 +18,16 @@ from goo_service.records.questions import number_of
 from goo_service.records.questions import number_or
 from goo_service.records.questions import read
 from goo_service.records.questions import rows_of
+from goo_service.records.questions import quoted
+from goo_service.records.questions import text_of
+from goo_service.records.questions import threes_in
 from goo_service.records.schema import searched
-from goo_service.records.schema import without_nul
 
 RANGES = 20
 """Ranges that are shown with an act in a list; the act by itself has all."""
 ACT_FILTERS = {name: f'act.{name} = ?' for name in
-               ('kind', 'outcome', 'refusal', 'caller', 'user', 'role', 'device', 'peer', 'number')}
+               ('kind', 'outcome', 'refusal', 'caller', 'user', 'role', 'device', 'peer', 'number',
+                'bundle')}
 OWN_ALONE = ('user', 'role', 'key')
 """Members of an act that its own side and the issuing body see. Nobody else finds it by them."""
 FEW, MOST_THREES = 20_000, 60
@@ -46,17 +50,33 @@ FIRST, LAST = (f'CASE WHEN moved.lot = moved.to_lot THEN moved.{end} ELSE lot.{o
 of them then (moves.py)."""
 
 
-def acts(database: sqlite3.Connection, viewer: Viewer, given: Given) -> Listed:
-    """Acts that the viewer may see, the newest first. `before` is the id to go on from."""
+@dataclass(frozen=True)
+class Found:
+    """The acts that fit a question: where the reading of them begins, and their ids."""
+
+    tables: str
+    column: str
+    conditions: Conditions
+    low: int
+    high: int
+
+
+def found_by(database: sqlite3.Connection, viewer: Viewer, given: Given) -> Found:
     low, high = ids_of(database, given)
     start, conditions = start_of(database, viewer, given, high - low)
     tables, column = STARTS[start]
     conditions.add(f'{column} BETWEEN ? AND ?', (low, high))
     conditions.add_given(ACT_FILTERS, given)
     add_words(conditions, viewer, given)
-    limit = limit_of(given)
-    found = read(database, f'''SELECT act.* FROM {tables} WHERE {conditions.where}
-                               ORDER BY {column} DESC LIMIT ?''', (*conditions.values, limit))
+    return Found(tables, column, conditions, low, high)
+
+
+def acts(database: sqlite3.Connection, viewer: Viewer, given: Given) -> Listed:
+    """Acts that the viewer may see, the newest first. `before` is the id to go on from."""
+    of, limit = found_by(database, viewer, given), limit_of(given)
+    found = read(database, f'''SELECT act.* FROM {of.tables} WHERE {of.conditions.where}
+                               ORDER BY {of.column} DESC LIMIT ?''',
+                 (*of.conditions.values, limit))
     shown = (shown_act(database, viewer, act, RANGES) for act in found.rows)
 
     def beside(acts: list[Row]) -> Row:
@@ -68,11 +88,11 @@ def acts(database: sqlite3.Connection, viewer: Viewer, given: Given) -> Listed:
 def start_of(database: sqlite3.Connection, viewer: Viewer, given: Given,
              span: int) -> tuple[str, Conditions]:
     """The table that leads to the fewest acts, and conditions on account, viewer and text."""
-    account, text = number_of(given, 'account'), given.get('q')
+    account, text = number_of(given, 'account'), text_of(given)
     touched = FEW if account is None else count_of(database, 'touched', 'account', account)
     seen = FEW if viewer.sees_all else count_of(database, 'seen', 'viewer', viewer.caller)
     others = min((count_of(database, 'act', name, given[name])
-                  for name in ('kind', 'device', 'key') if given.get(name)), default=FEW)
+                  for name in ('kind', 'device', 'key', 'bundle') if given.get(name)), default=FEW)
     if text and min(span, touched, seen, others) >= FEW:
         if letters := letters_of(database, text):
             of_text = 'word MATCH ?', (letters,)
@@ -110,8 +130,9 @@ def ids_of(database: sqlite3.Connection, given: Given) -> tuple[int, int]:
     """
     most, = database.execute('SELECT coalesce(max(id), 0) FROM act').fetchone()
     entry, before = number_of(given, 'entry'), number_or(most + 1, given, 'before')
+    after = entry if entry is not None else after_of(given)
     ids, low, high = range(1, most + 1), 1, min(before - 1, most)
-    for column, first, last in (('entry', entry, entry),
+    for column, first, last in (('entry', after, entry),
                                 ('day', day_of(given, 'from'), day_of(given, 'to'))):
         def value_of(number: int, column: str = column) -> Any:
             query = f'SELECT {column} FROM act WHERE id = ?'
@@ -124,6 +145,12 @@ def ids_of(database: sqlite3.Connection, given: Given) -> tuple[int, int]:
     return low, high
 
 
+def after_of(given: Given) -> int | None:
+    """The first entry of a feed, which is the one after `after`."""
+    entry = (given.get('after') or '').partition('.')[0]
+    return int(entry) + 1 if entry.isdecimal() else None
+
+
 def add_words(conditions: Conditions, viewer: Viewer, given: Given) -> None:
     """The key (with `*` at its end: all that begin so) and the text. What the viewer does not see,
     he does not find."""
@@ -133,24 +160,18 @@ def add_words(conditions: Conditions, viewer: Viewer, given: Given) -> None:
         conditions.add('act.key >= ? AND act.key < ?', (key[:-1], f'{key[:-1]}\x7f'))
     elif key:
         conditions.add('act.key = ?', (key,))
-    if text := given.get('q'):
+    if text := text_of(given):
         whose = () if viewer.sees_all else (viewer.caller,)
         own_key = 'CASE WHEN act.caller = ? THEN act.key END' if whose else 'act.key'
-        conditions.add(f'instr(lower({searched(own_key)}), lower(?))', (*whose, text))
+        conditions.add(f'instr(FOLD({searched(own_key)}), ?)', (*whose, text))
 
 
 # -------------------------------------------------------------------- the index of texts
 
 def letters_of(database: sqlite3.Connection, text: str) -> str:
     """What is looked up in the index of texts: three letters at a time, all of which an act has
-    that has the text. Nothing where the index is no help."""
-    text = without_nul(text)
-    if len(text) > 2:
-        places = {*range(0, len(text) - 2, 3), len(text) - 3}
-        return ' '.join(quoted(text[at:at + 3]) for at in sorted(places))
-    if not text.isascii():          # of other letters FTS5 has small ones of its own
-        return ''
-    return threes_of(database, text.lower())
+    that has the folded text. Nothing where the index is no help."""
+    return threes_in(text) if len(text) > 2 else threes_of(database, text)
 
 
 def threes_of(database: sqlite3.Connection, begin: str) -> str:
@@ -162,11 +183,6 @@ def threes_of(database: sqlite3.Connection, begin: str) -> str:
     if len(threes) == MOST_THREES:
         return ''
     return ' OR '.join(map(quoted, threes)) or NO_THREE
-
-
-def quoted(three: str) -> str:
-    """Three letters in the language of FTS5, whatever they are."""
-    return '"{}"'.format(three.replace('"', '""'))
 
 
 # -------------------------------------------------------------------- one act
@@ -206,14 +222,18 @@ def ranges_of(database: sqlite3.Connection, viewer: Viewer, number: int) -> list
         ORDER BY moved.first, lot.id''', (number, *from_values, *to_values))
 
 
-def joined(ranges: list[Row]) -> list[Row]:
+WAY = ('lot', 'account', 'from_account', 'place')
+"""What ranges of one act have in common that are told as one."""
+
+
+def joined(ranges: list[Row], same: tuple[str, ...] = WAY) -> list[Row]:
     """Ranges in rising order, those made one that follow each other in the same lot and went the
     same way."""
     longest: list[Row] = []
     for span in ranges:
         last = longest[-1] if longest else None
         if last and last['last'] == span['first'] - 1 and all(
-                last[name] == span[name] for name in ('lot', 'account', 'from_account', 'place')):
+                last[name] == span[name] for name in same):
             longest[-1] = {**last, 'last': span['last'], 'count': last['count'] + span['count']}
         else:
             longest.append(span)

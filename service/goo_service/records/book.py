@@ -20,10 +20,12 @@ from goo_service.common.rules import Lot
 from goo_service.common.rules import PLANT
 from goo_service.common.rules import compact
 from goo_service.common.rules import months_after
+from goo_service.log import bundles
 from goo_service.log import roles
 from goo_service.log.entries import Entry
 from goo_service.log.entries import Outcome
 from goo_service.log.entries import Record
+from goo_service.records import bundle_lines
 from goo_service.records import moves
 from goo_service.records import table_rows
 from goo_service.records.commands import Command
@@ -35,6 +37,7 @@ from goo_service.records.commands import kept_of
 from goo_service.records.commands import parties_of
 from goo_service.records.registry import Change
 from goo_service.records.schema import Mismatch
+from goo_service.records.schema import folded
 from goo_service.records.writer import Writer
 
 KINDS = {
@@ -56,6 +59,11 @@ Reply = tuple[int, int, int, int]
 """The answer of the rules: its kind and three numbers."""
 
 
+def kind_of(word: object) -> str:
+    """The kind of the act that a command makes."""
+    return KINDS.get(str(word), 'unreadable')
+
+
 @dataclass(frozen=True, slots=True)
 class At:
     """Where a request stands in the log, and who sent it."""
@@ -68,6 +76,8 @@ class At:
     line: int = 0
     rows: int = 0
     lines: str | None = None
+    bundle: int | None = None
+    """The entry of the bundle that it is a line of."""
 
 
 @dataclass(frozen=True, slots=True)
@@ -93,6 +103,8 @@ class Book(Writer):
             self.apply_beyond_role(at, entry, outcome)
         elif entry.route == REQUEST_ROUTE:
             self.apply_request(at, entry.body, outcome)
+        elif entry.route in bundles.ROUTES:
+            self.apply_bundle(replace(at, bundle=entry.n), entry.body, outcome)
         elif entry.route == TABLE_ROUTE and outcome.status == 200:
             self.apply_table(at, entry.body, outcome.body)
         elif entry.route == TABLE_ROUTE:
@@ -116,7 +128,8 @@ class Book(Writer):
             raise Mismatch(f'entry {entry.n}: the role {entry.role} does not allow it, and the log '
                            f'has status {outcome.status}')
         is_table = entry.route == TABLE_ROUTE
-        command = {'command': 'declare'} if is_table else kept_of(command_of(entry.body))
+        first = bundles.lines_of(entry.body)[0] if entry.route in bundles.ROUTES else entry.body
+        command = {'command': 'declare'} if is_table else kept_of(command_of(first))
         self.apply_command(at, command, Result('refused', ROLE))
 
     def apply_request(self, at: At, body: bytes, outcome: Outcome) -> None:
@@ -125,6 +138,33 @@ class Book(Writer):
         except ValueError:
             word = 'set aside' if outcome.status == 500 else 'unreadable'
             answer = {'outcome': word, 'fault': f'status {outcome.status}'}
+        self.apply_answered(at, body, answer)
+
+    def apply_bundle(self, at: At, body: bytes, outcome: Outcome) -> None:
+        """Writes what each line of a bundle came to, and then what lines together came to."""
+        if outcome.status != 200:
+            return self.apply_refused_bundle(at, body, outcome)
+        together = bundle_lines.Together()
+        for line, answer in bundles.answered(body, outcome.body):
+            if not together.add(line.number, kind_of(line.command), answer):
+                self.apply_answered(replace(at, line=line.number, rows=1), line.body, answer)
+        for (kind, *_), same in together.kinds.items():
+            self.add_act(replace(at, line=same.spans[0][0], rows=same.count, lines=same.lines),
+                         kind, Result(same.outcome, same.refusal))
+
+    def apply_refused_bundle(self, at: At, body: bytes, outcome: Outcome) -> None:
+        """Writes one act for a bundle of which no line was carried out: the line that was why."""
+        lines = bundles.lines_of(body)
+        try:
+            answer = json.loads(outcome.body)
+        except ValueError:
+            word = 'set aside' if outcome.status == 500 else 'unreadable'
+            answer = {'outcome': word, 'fault': f'status {outcome.status}'}
+        number = int(answer.get('line', 1))
+        self.apply_answered(replace(at, line=number, rows=len(lines)), lines[number - 1], answer)
+
+    def apply_answered(self, at: At, body: bytes, answer: dict[str, Any]) -> None:
+        """Writes a request with the registry's answer."""
         command = command_of(body) if answer['outcome'] != 'unreadable' else {}
         command = kept_of(command) if answer['outcome'] == 'set aside' else command
         self.apply_command(at, command, Result(
@@ -141,7 +181,7 @@ class Book(Writer):
             plain = {name: value for name, value in command.items() if name != 'key'}
             self.accept(at, key, plain, result)
         else:
-            self.add_act(at, KINDS.get(str(word), 'unreadable'), result, parties_of(command, {}),
+            self.add_act(at, kind_of(word), result, parties_of(command, {}),
                          key if isinstance(key, str) else None)
 
     def accept(self, at: At, key: str | None, command: Command, result: Result) -> None:
@@ -185,7 +225,8 @@ class Book(Writer):
         refusal = None if result.outcome == 'accepted' else result.refusal
         self.insert('act', self.acts, at.entry, at.line, at.rows, at.lines, at.time, at.user,
                     at.role, at.caller, self.registry.today, kind, result.outcome, refusal, key,
-                    of.holder, of.giver, of.taker, of.device, of.peer, number, of.wh, of.note)
+                    of.holder, of.giver, of.taker, of.device, of.peer, number, of.wh, of.note,
+                    at.bundle)
         self.show(at.caller, self.acts)
         if result.outcome == 'accepted':
             self.show(of.holder, self.acts)
@@ -249,13 +290,14 @@ class Book(Writer):
             known = self.lots[lot.key] = len(self.lots) + 1
             self.begins[known] = first
             trade_until = months_after(lot.last_day, 12)
-            self.insert('lot', known, *lot, trade_until, lot.expires_on, first, last)
+            self.insert('lot', known, *lot, trade_until, lot.expires_on, first, last,
+                        folded(lot.site))
         return known
 
     # ---------------------------------------------------------------- what commands leave besides
 
     def write_holder(self, act: int, of: Command, _: Reply) -> None:
-        self.insert('holder', of['holder'], of['name'], act)
+        self.insert('holder', of['holder'], of['name'], act, folded(of['name']))
 
     def write_account(self, act: int, of: Command, answer: Reply) -> None:
         self.insert('account', answer[1], of['holder'], 0, act)
@@ -268,7 +310,7 @@ class Book(Writer):
         device = self.registry.devices[of['device']]
         self.insert('device', of['device'], device['account'],
                     *(device[member] for member in PLANT), device['carrier'],
-                    *self.sums_of(of['device']), act)
+                    *self.sums_of(of['device']), act, folded(device['site']))
 
     def sums_of(self, gsrn: str) -> list[Any]:
         """Last declared day, energy and certificates of a device."""
@@ -303,8 +345,9 @@ class Book(Writer):
     def write_withdrawal(self, act: int, _: Command, answer: Reply) -> None:
         self.write_withdrawn(answer[1], act)
 
-    def write_cancellation(self, act: int, _: Command, answer: Reply) -> None:
-        self.insert('cancellation', answer[1], *self.registry.cancellations.pop(answer[1]), act)
+    def write_cancellation(self, act: int, of: Command, answer: Reply) -> None:
+        self.insert('cancellation', answer[1], *self.registry.cancellations.pop(answer[1]), act,
+                    folded(of['beneficiary']))
 
     def write_peer(self, act: int, of: Command, _: Reply) -> None:
         self.insert('peer', of['peer'], act)

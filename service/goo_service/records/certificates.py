@@ -17,8 +17,10 @@ from goo_service.records.questions import number_of
 from goo_service.records.questions import number_or
 from goo_service.records.questions import order_of
 from goo_service.records.questions import paged
+from goo_service.records.questions import plant_filters
 from goo_service.records.questions import read
 from goo_service.records.questions import rows_of
+from goo_service.records.questions import text_of
 
 LOT_COLUMNS = ', '.join(f'lot.{name}' for name in (
     'origin', 'device', 'country', 'site', 'tech', 'source', 'capacity_w', 'commissioned',
@@ -38,7 +40,8 @@ LOT_FILTERS = {
     **{name: f'lot.{name} = ?' for name in ('tech', 'source', 'country', 'carrier', 'device',
                                             'origin', 'support')},
     'from': 'lot.first_day >= ?', 'to': 'lot.last_day <= ?',
-    'expires_before': 'lot.expires_on <= ?'}
+    'expires_before': 'lot.expires_on <= ?',
+    **plant_filters('lot')}
 ACTS = {'transfer': 'tradable', 'export': 'tradable', 'cancel': 'held', 'withdraw': 'held'}
 """The acts that certificates are chosen for, and which of an account's certificates are fit for
 each: those whose trade is open, or all that are held."""
@@ -82,8 +85,8 @@ def conditions_of(viewer: Viewer, given: Given) -> Conditions:
     if (account := number_of(given, 'account')) is not None:
         conditions.add('run.account = ?', (account,))
     conditions.add_given(LOT_FILTERS, given)
-    if text := given.get('q'):
-        conditions.add("instr(lower(lot.site || ' ' || lot.device), lower(?))", (text,))
+    if text := text_of(given):
+        conditions.add("instr(lot.folded || ' ' || lot.device, ?)", (text,))
     if is_set(given, 'tradable'):
         conditions.add(f'lot.trade_until IS NULL OR lot.trade_until >= {TODAY}')
     return conditions

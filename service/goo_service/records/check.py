@@ -28,6 +28,7 @@ from goo_service.common.rules import Place
 from goo_service.common.rules import Registry
 from goo_service.copies import contents
 from goo_service.copies.expected import ROWS
+from goo_service.log import bundles
 from goo_service.log import entries
 from goo_service.log import roles
 from goo_service.records import table_rows
@@ -132,6 +133,10 @@ def accepted_in(record: entries.Record) -> Iterator[Accepted]:
         if members['outcome'] in ('accepted', 'repeated'):
             command = command_of(entry.body)
             yield accepted_of(entry.caller, command, members['outcome'])
+    elif entry.route in bundles.ROUTES:
+        for line, answer in bundles.answered(entry.body, outcome.body):
+            if answer['outcome'] in ('accepted', 'repeated'):
+                yield accepted_of(entry.caller, command_of(line.body), answer['outcome'])
     elif entry.route == TABLE_ROUTE:
         for row in table_rows.rows_of_table(entry.body, outcome.body):
             if row.outcome in ('accepted', 'repeated'):

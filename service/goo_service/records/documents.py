@@ -3,26 +3,46 @@ import base64
 import hashlib
 import hmac
 import sqlite3
+from collections.abc import Callable
+from dataclasses import dataclass
 
 from goo_service.records.certificates import LOT_COLUMNS
 from goo_service.records.certificates import RUNS
+from goo_service.records.numbers import DocumentNumber
+from goo_service.records.numbers import cancellations_of
+from goo_service.records.numbers import number_of_document
+from goo_service.records.numbers import read_numbers
+from goo_service.records.paper import Writer
+from goo_service.records.paper import language_of
 from goo_service.records.questions import BadQuestion
 from goo_service.records.questions import Given
 from goo_service.records.questions import NotFound
 from goo_service.records.questions import Row
 from goo_service.records.questions import Viewer
 from goo_service.records.questions import rows_of
+from goo_service.records.schema import CANCELLATION
+from goo_service.records.seal import SHA256
+from goo_service.records.seal import Seal
 
 CODE_LENGTH = 16
 """Letters and digits of a check code: 80 bits."""
-MOST = 1000
-"""Cancellations that one document may be of."""
+
+
+@dataclass(frozen=True)
+class Maker:
+    """What makes a document: the keys of check codes, of which the first one makes codes and each
+    one verifies them, and who writes in a language."""
+
+    keys: tuple[bytes, ...]
+    writer: Callable[[str], Writer]
+    public: str = ''
+    """The public key of seals, where there is one."""
 
 
 def document(database: sqlite3.Connection, number: int) -> Row:
     """What a cancellation's document says: the registry's text, and the facts of each lot."""
-    found = rows_of(database, '''
-        SELECT cancellation.*, account.holder, holder.name, (SELECT code FROM meta) AS registry
+    found = rows_of(database, f'''
+        SELECT {CANCELLATION}, account.holder, holder.name, (SELECT code FROM meta) AS registry
         FROM cancellation JOIN account ON account.number = cancellation.account
         JOIN holder ON holder.code = account.holder WHERE cancellation.number = ?''', (number,))
     if not found:
@@ -59,27 +79,6 @@ def is_code(text: str, key: bytes, given: str) -> bool:
     return hmac.compare_digest(wanted.encode(), plain.encode(errors='replace'))
 
 
-def numbers_of(given: Given, name: str) -> list[int]:
-    """The numbers of cancellations as a document has them: `1-3,7`."""
-    text = ''.join((given.get(name) or '').split())
-    numbers: set[int] = set()
-    count = 0
-    for span in text.split(','):
-        first, dash, last = span.partition('-')
-        if not is_number(first) or dash and not is_number(last):
-            raise BadQuestion(f'{name} is {text!r}, and not numbers as 7 or 1-3,7')
-        ends = int(first), int(last or first)
-        count += ends[1] - ends[0] + 1
-        if ends[1] < ends[0] or count > MOST:
-            raise BadQuestion(f'{name} is {text!r}, and not up to {MOST:,} numbers in rising order')
-        numbers.update(range(ends[0], ends[1] + 1))
-    return sorted(numbers)
-
-
-def is_number(text: str) -> bool:
-    return text.isascii() and text.isdigit() and len(text) < 10
-
-
 def seen_document(database: sqlite3.Connection, viewer: Viewer, number: int) -> Row:
     """A document, for those who see the cancellation."""
     of, accounts = document(database, number), viewer.accounts(database)
@@ -88,28 +87,57 @@ def seen_document(database: sqlite3.Connection, viewer: Viewer, number: int) -> 
     return of
 
 
-def shown_documents(database: sqlite3.Connection, viewer: Viewer, given: Given, key: bytes) -> Row:
-    """One document of several cancellations: each of them, the text of all, and its code."""
-    found = [seen_document(database, viewer, number) for number in numbers_of(given, 'numbers')]
-    text = ''.join(map(document_text, found))
-    return {'items': found, 'text': text, 'code': check_code(text, key)}
+def shown_documents(database: sqlite3.Connection, viewer: Viewer, given: Given,
+                    maker: Maker) -> Row:
+    """One document of several cancellations: each of them, the text of all, its number and code,
+    and what stands on it."""
+    numbers = cancellations_of(database, numbers_of(given, 'numbers'))
+    return whole(database, [seen_document(database, viewer, of) for of in numbers], given, maker)
+
+
+def whole(database: sqlite3.Connection, items: list[Row], given: Given, maker: Maker) -> Row:
+    """The document of these cancellations."""
+    text = ''.join(map(document_text, items))
+    code = check_code(text, maker.keys[0])
+    number = number_of_document(database, [of['number'] for of in items])
+    paper = maker.writer(language_of(given)).paper(items, number, code)
+    return {'number': number, 'code': code, 'items': items, 'text': text, 'paper': paper}
 
 
 def shown_document(database: sqlite3.Connection, viewer: Viewer, number: int, key: bytes) -> Row:
-    """A document with its text and its check code."""
+    """A cancellation with its document's text and check code."""
     of = seen_document(database, viewer, number)
     text = document_text(of)
     return {**of, 'text': text, 'code': check_code(text, key)}
 
 
-def verified(database: sqlite3.Connection, given: Given, key: bytes) -> Row | None:
-    """What a document says whose numbers and code belong together; None where they do not. Nobody
-    has to sign in for this."""
+def verified(database: sqlite3.Connection, given: Given, maker: Maker) -> Row | None:
+    """What a document says whose number and code belong together; None where they do not, or where
+    a seal is given that is not ours. Nobody has to sign in for this."""
+    seal = seal_of(given)
     try:
-        found = [document(database, number) for number in numbers_of(given, 'number')]
+        numbers = cancellations_of(database, numbers_of(given, 'number'))
+        found = [document(database, number) for number in numbers]
     except NotFound:
         return None
     text = ''.join(map(document_text, found))
-    if not is_code(text, key, given.get('code', '')):
+    if not any([is_code(text, key, given.get('code', '')) for key in maker.keys]):
         return None
-    return {'number': found[0]['number'], 'text': text, 'document': found[0], 'documents': found}
+    if seal and not (maker.public and seal.is_of(maker.public)):
+        return None
+    return {'sealed': bool(seal), **whole(database, found, given, maker)}
+
+
+def seal_of(given: Given) -> Seal | None:
+    """The seal that is given with a number and a code; None where there is none."""
+    digest, signature = given.get('sha256'), given.get('seal')
+    if not digest and not signature:
+        return None
+    if not digest or not signature or not SHA256.fullmatch(digest) or len(signature) > 100:
+        raise BadQuestion('sha256 and seal belong together: 64 hexadecimal digits, and a signature '
+                          'in base64')
+    return Seal(given.get('number', ''), given.get('code', ''), digest, signature)
+
+
+def numbers_of(given: Given, name: str) -> DocumentNumber | list[int]:
+    return read_numbers(given.get(name) or '', name)

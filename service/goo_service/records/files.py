@@ -12,6 +12,8 @@ FORMULA = ('=', '+', '-', '@', '\t', '\r')
 PARTIES = ('giver', 'taker')
 """Members that are an account with its holder, or none."""
 PARTY = ('account', 'holder', 'name')
+BYTE_ORDER = '\ufeff'
+"""The mark by which Excel knows that a CSV is UTF-8."""
 PART = 1 << 16
 """Letters that are sent at once."""
 
@@ -30,15 +32,17 @@ def spans(ranges: list[dict[str, Any]]) -> str:
 
 
 def cells(name: str, value: Any) -> list[Any]:
-    """The cells of a column: one, or those of an account with its holder. None of them does harm
-    in a spreadsheet."""
-    if isinstance(value, str):
-        return [f"'{value}"] if value.startswith(FORMULA) else [value]
+    """The cells of a column: one, or those of an account with its holder."""
     if name in PARTIES:
         return [cell for of in PARTY for cell in cells(of, value and value[of])]
     if isinstance(value, list):
         return [spans(value)]
-    return [f'{value:014}'] if name in NUMBERS and value is not None else [value]
+    return [f'{value:014}'] if name in NUMBERS and isinstance(value, int) else [value]
+
+
+def harmless(cell: Any) -> Any:
+    """A cell that a spreadsheet does not compute where it reads a CSV."""
+    return f"'{cell}" if isinstance(cell, str) and cell.startswith(FORMULA) else cell
 
 
 def heads(name: str) -> list[str]:
@@ -46,13 +50,15 @@ def heads(name: str) -> list[str]:
     return [f'{name}_{of}' for of in PARTY] if name in PARTIES else [name]
 
 
-def csv_of(columns: Iterable[str], rows: Iterable[dict[str, Any]]) -> Iterator[bytes]:
-    """The parts of a file, each made when it is asked for."""
+def csv_of(columns: Iterable[str], rows: Iterable[dict[str, Any]],
+           mark: str = '') -> Iterator[bytes]:
+    """The parts of a file, each made when it is asked for. `mark` is what it begins with."""
     text, names = io.StringIO(), tuple(columns)
+    text.write(mark)
     writer = csv.writer(text, lineterminator='\r\n')
     writer.writerow([head for name in names for head in heads(name)])
     for row in rows:
-        writer.writerow([cell for name in names for cell in cells(name, row[name])])
+        writer.writerow([harmless(cell) for name in names for cell in cells(name, row[name])])
         if text.tell() >= PART:
             yield text.getvalue().encode()
             text.seek(0)

@@ -1,68 +1,133 @@
 """Lists of what the registry has: accounts, devices, declarations, documents, notices, sums."""
 import sqlite3
+from collections.abc import Callable
+from collections.abc import Mapping
 from dataclasses import dataclass
+from dataclasses import field
 
 from goo_service.common.rules import CANCELLED
 from goo_service.common.rules import EXPIRED
 from goo_service.common.rules import EXPORTED
 from goo_service.common.rules import HELD
 from goo_service.common.rules import PLACES
+from goo_service.common.rules import PLANT
 from goo_service.common.rules import WITHDRAWN
 from goo_service.records.acts import BY_LOT
 from goo_service.records.acts import FIRST
 from goo_service.records.acts import LAST
 from goo_service.records.certificates import LOT_FILTERS
+from goo_service.records.pages import Query
+from goo_service.records.pages import paged_by
 from goo_service.records.questions import BadQuestion
+from goo_service.records.questions import Condition
 from goo_service.records.questions import Conditions
 from goo_service.records.questions import Given
 from goo_service.records.questions import Listed
 from goo_service.records.questions import Viewer
-from goo_service.records.questions import order_of
 from goo_service.records.questions import paged
+from goo_service.records.questions import plant_filters
+from goo_service.records.questions import text_of
+from goo_service.records.questions import threes_in
+from goo_service.records.schema import CANCELLATION
+from goo_service.records.schema import NAMES
 
 SUMS = ', '.join(f'''(SELECT coalesce(sum(last - first + 1), 0) FROM run
     WHERE run.account = account.number AND run.kind = {kind}) AS {word}'''
                  for kind, word in PLACES.items())
 
 
-@dataclass(frozen=True)
-class List:
-    """A list: its query, the column of the account that decides who sees a row, and the column that
-    it is sorted by."""
+PLANT_COLUMNS = ', '.join(f'device.{name}' for name in (
+    'gsrn', 'account', *PLANT, 'carrier', 'last_day', 'carry_wh', 'declared_wh', 'corrected_wh',
+    'issued', 'withdrawn', 'act'))
 
-    query: str
-    account: str
-    order: str
-    is_rising: bool = False
+
+@dataclass(frozen=True)
+class List(Query):
+    """A list of which a viewer sees the rows of his accounts."""
+
+    account: str = ''
+    """The column of the account that decides who sees a row."""
+    filters: Mapping[str, str] = field(default_factory=dict)
+    """Its filters besides the account."""
+    found: Callable[[str], Condition] | None = None
+    """The condition that a text is found in a row, where it has one."""
+
+
+def found_in(table: str) -> Callable[[str], Condition]:
+    """A text is in the name of a row, by the index of names where it has three letters."""
+    def condition(text: str) -> Condition:
+        inside = f'instr({NAMES[table]}, ?)', (text,)
+        if len(text) < 3:
+            return inside
+        by_index = f'{table}.act IN (SELECT rowid FROM name WHERE name MATCH ?)'
+        return f'{by_index} AND {inside[0]}', (threes_in(text), text)
+
+    return condition
+
+
+def found_by(column: str, table: str, key: str) -> Callable[[str], Condition]:
+    """A text is in the name of the row of another table that a column names."""
+    def condition(text: str) -> Condition:
+        inside, values = found_in(table)(text)
+        return f'{column} IN (SELECT {table}.{key} FROM {table} WHERE {inside})', values
+
+    return condition
 
 
 LISTS = {
-    'accounts': List(f'''SELECT account.number, account.holder, holder.name, account.closed, {SUMS}
-                         FROM account JOIN holder ON holder.code = account.holder''',
-                     'account.number', 'number', True),
-    'devices': List('SELECT device.* FROM device', 'device.account', 'gsrn', True),
-    'declarations': List('''SELECT declaration.*, device.account, act.entry, act.time, act.day,
-                            act.user, act.caller, act.key FROM declaration
-                            JOIN device ON device.gsrn = declaration.device
-                            JOIN act ON act.id = declaration.act''', 'device.account', 'act'),
-    'corrections': List('''SELECT correction.*, device.account, act.day, act.entry, act.time,
-                           act.number, withdrawal.reason, withdrawal.first, withdrawal.last
-                           FROM correction JOIN device ON device.gsrn = correction.device
-                           JOIN act ON act.id = correction.act
-                           LEFT JOIN withdrawal ON withdrawal.number = correction.withdrawal''',
-                        'device.account', 'act'),
-    'cancellations': List('''SELECT cancellation.*,
-                             cancellation.last - cancellation.first + 1 AS count
-                             FROM cancellation''', 'cancellation.account', 'number'),
-    'notices': List('SELECT notice.* FROM notice', 'notice.account', 'act'),
+    'accounts': List(
+        f'account.number, account.holder, holder.name, account.closed, {SUMS}',
+        'account JOIN holder ON holder.code = account.holder', 'account.number', 'number',
+        {'number': 'account.number', 'holder': 'account.holder', 'name': 'holder.folded'},
+        account='account.number', filters={'holder': 'account.holder = ?'},
+        found=found_by('account.holder', 'holder', 'code')),
+    'devices': List(
+        PLANT_COLUMNS, 'device', 'device.gsrn', 'gsrn',
+        {'gsrn': 'device.gsrn', 'site': 'device.folded', 'commissioned': 'device.commissioned',
+         'capacity_w': 'device.capacity_w'}, account='device.account',
+        filters={'device': 'device.gsrn = ?', **plant_filters('device'),
+                 **{name: f'device.{name} = ?'
+                    for name in ('tech', 'source', 'country', 'carrier', 'support')}},
+        found=found_in('device')),
+    'declarations': List(
+        '''declaration.*, device.site, device.account, act.entry, act.time, act.day, act.user,
+        act.caller, act.key''',
+        '''declaration JOIN device ON device.gsrn = declaration.device
+        JOIN act ON act.id = declaration.act''', 'declaration.act', '-act',
+        {'act': 'declaration.act'}, account='device.account',
+        filters={'device': 'declaration.device = ?', 'from': 'declaration.first_day >= ?',
+                 'to': 'declaration.last_day <= ?'},
+        found=found_by('declaration.device', 'device', 'gsrn')),
+    'corrections': List(
+        '''correction.*, device.site, device.account, act.day, act.entry, act.time, act.number,
+        withdrawal.reason, withdrawal.first, withdrawal.last''',
+        '''correction JOIN device ON device.gsrn = correction.device
+        JOIN act ON act.id = correction.act
+        LEFT JOIN withdrawal ON withdrawal.number = correction.withdrawal''',
+        'correction.act', '-act', {'act': 'correction.act'}, account='device.account',
+        filters={'device': 'correction.device = ?'},
+        found=found_by('correction.device', 'device', 'gsrn')),
+    'cancellations': List(
+        f'{CANCELLATION}, cancellation.last - cancellation.first + 1 AS count', 'cancellation',
+        'cancellation.number', '-number',
+        {'number': 'cancellation.number', 'day': 'cancellation.day',
+         'beneficiary': 'cancellation.folded'}, account='cancellation.account',
+        filters={'number': 'cancellation.number = ?', 'from': 'cancellation.day >= ?',
+                 'to': 'cancellation.day <= ?'}, found=found_in('cancellation')),
+    'notices': List(
+        'notice.*', 'notice', 'notice.act', '-act', {'act': 'notice.act'},
+        account='notice.account',
+        filters={'peer': 'notice.peer = ?', 'number': 'notice.number = ?'}),
 }
-FILTERS = {
-    'devices': {'device': 'device.gsrn = ?'},
-    'declarations': {'device': 'declaration.device = ?'},
-    'corrections': {'device': 'correction.device = ?'},
-    'cancellations': {'number': 'cancellation.number = ?'},
-    'notices': {'peer': 'notice.peer = ?', 'number': 'notice.number = ?'}}
-"""Filters of a list, besides the account."""
+HOLDERS = Query(
+    '''holder.code, holder.name,
+    (SELECT count(*) FROM account WHERE account.holder = holder.code) AS accounts''',
+    'holder', 'holder.code', 'code', {'code': 'holder.code', 'name': 'holder.folded'})
+WITHDRAWALS = Query(
+    '''withdrawal.number, withdrawal.reason, withdrawal.day, min(moved.first) AS first,
+    max(moved.last) AS last, sum(moved.last - moved.first + 1) AS count, withdrawal.act''',
+    'withdrawal JOIN moved ON moved.act = withdrawal.act', 'withdrawal.number', '-number',
+    {'number': 'withdrawal.number'}, 'GROUP BY withdrawal.number')
 BY = {'month': 'substr(act.day, 1, 7)', 'production': 'substr(lot.first_day, 1, 7)',
       **{name: f'lot.{name}' for name in ('tech', 'source', 'carrier', 'country', 'device')}}
 FLOWS = {'issued': "act.kind = 'issue'", 'imported': "act.kind = 'import'",
@@ -74,10 +139,10 @@ def listed(name: str, database: sqlite3.Connection, viewer: Viewer, given: Given
     """A list of the registry's records, the newest first where they are acts."""
     of = LISTS[name]
     conditions = Conditions(viewer.of_accounts(of.account))
-    conditions.add_given({'account': f'{of.account} = ?', **FILTERS.get(name, {})}, given)
-    order = order_of(given, (of.order,), of.order if of.is_rising else f'-{of.order}')
-    found = paged(given, database, f'''SELECT * FROM ({of.query} WHERE {conditions.where})
-                                       ORDER BY {order}''', conditions.values)
+    conditions.add_given({'account': f'{of.account} = ?', **of.filters}, given)
+    if of.found and (text := text_of(given)):
+        conditions.add(*of.found(text))
+    found = paged_by(of, database, conditions, given)
     if viewer.sees_all:
         return found
     hidden = {name for name in ('user', 'key') if name in found.columns}
@@ -90,21 +155,17 @@ def holders(database: sqlite3.Connection, viewer: Viewer, given: Given) -> Liste
     """All holders for the issuing body, himself for a holder."""
     own = ('holder.code = ?', (viewer.caller,))
     conditions = Conditions(*([] if viewer.sees_all else [own]))
-    return paged(given, database, f'''
-        SELECT holder.code, holder.name,
-               (SELECT count(*) FROM account WHERE account.holder = holder.code) AS accounts
-        FROM holder WHERE {conditions.where} ORDER BY code''', conditions.values)
+    conditions.add_given({'holder': 'holder.code = ?'}, given)
+    if text := text_of(given):
+        conditions.add(*found_in('holder')(text))
+    return paged_by(HOLDERS, database, conditions, given)
 
 
 def withdrawals(database: sqlite3.Connection, viewer: Viewer, given: Given) -> Listed:
     """Withdrawals with their reason. A holder sees those of certificates that he held, and his part
     of their range."""
-    condition, values = viewer.of_accounts('moved.account')
-    return paged(given, database, f'''
-        SELECT withdrawal.number, withdrawal.reason, withdrawal.day, min(moved.first) AS first,
-               max(moved.last) AS last, sum(moved.last - moved.first + 1) AS count, withdrawal.act
-        FROM withdrawal JOIN moved ON moved.act = withdrawal.act WHERE {condition}
-        GROUP BY withdrawal.number ORDER BY withdrawal.number DESC''', values)
+    conditions = Conditions(viewer.of_accounts('moved.account'))
+    return paged_by(WITHDRAWALS, database, conditions, given)
 
 
 def statistics(database: sqlite3.Connection, viewer: Viewer, given: Given) -> Listed:

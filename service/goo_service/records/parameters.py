@@ -8,32 +8,49 @@ from typing import Protocol
 
 from goo_service.records.acts import ACT_FILTERS
 from goo_service.records.certificates import LOT_FILTERS
-from goo_service.records.lists import FILTERS
 from goo_service.records.lists import LISTS
 from goo_service.records.questions import BadQuestion
+from goo_service.records.questions import FILES
 
 PAGE = ('limit', 'offset', 'format')
+BEHIND = ('sort', 'limit', 'after', 'format')
+"""Of lists that go on behind a row, and not at a count of rows."""
 HELD = ('account', 'q', 'tradable', *LOT_FILTERS)
 SUMMED = ('tech', 'source', 'carrier', 'country', 'device')
 PARAMETERS: dict[str, tuple[str, ...]] = {
     'acts': (*ACT_FILTERS, 'account', 'key', 'entry', 'from', 'to', 'q', 'before', 'limit',
-             'format'),
+             'format', 'folded', 'after', 'wait'),
     'holdings': ('by', 'place', 'sort', *HELD, *PAGE),
     'deadlines': ('days', *HELD, *PAGE),
     'choice': ('count', 'order', 'act', *HELD, 'format'),
-    'holders': PAGE,
-    'withdrawals': PAGE,
+    'holders': ('holder', 'q', *BEHIND),
+    'withdrawals': BEHIND,
+    'undeclared': ('month', 'account', *PAGE),
+    'attachments': PAGE,
+    'directory': PAGE,
+    'party': ('account', 'holder', 'peer'),
     'statistics': ('by', 'from', 'to', *SUMMED, *PAGE),
-    **{name: ('account', *FILTERS.get(name, {}), 'sort', *PAGE) for name in LISTS},
+    **{name: ('account', *of.filters, *(('q',) if of.found else ()), *BEHIND)
+       for name, of in LISTS.items()},
     'acts/NUMBER': (),
     'certificates/NUMBER': (),
     'cancellations/NUMBER': (),
-    'documents': ('numbers',),
+    'attachments/NUMBER': (),
+    'documents': ('numbers', 'lang', 'format'),
+    'doubts': (),
     'status': (),
     'openapi.yaml': (),
-    'verify': ('number', 'code'),
+    'verify': ('number', 'code', 'lang', 'sha256', 'seal'),
+    'verify/key': (),
 }
-FORMATS = ('csv', 'json')
+FORMATS = (*FILES, 'json')
+FORMATS_OF = {'documents': ('pdf', 'json')}
+"""Formats of a route that is no list."""
+
+
+def page_parameter(route: str) -> str:
+    """The parameter that takes the `next` of a page of this list."""
+    return next(name for name in ('before', 'after', 'offset') if name in PARAMETERS[route])
 
 
 class Query(Protocol):
@@ -53,6 +70,7 @@ def parameters_of(route: str, given: Query) -> dict[str, str]:
         if len(values) > 1:
             raise BadQuestion(f'{name} is given {len(values)} times')
         found[name] = values[0]
-    if found.get('format', '') not in ('', *FORMATS):
-        raise BadQuestion(f'format is {found["format"]!r}, and not one of {", ".join(FORMATS)}')
+    formats = FORMATS_OF.get(route, FORMATS)
+    if found.get('format', '') not in ('', *formats):
+        raise BadQuestion(f'format is {found["format"]!r}, and not one of {", ".join(formats)}')
     return found

@@ -14,17 +14,20 @@ from typing import Any
 
 from goo_service.common.rules import ISSUER
 from goo_service.records.book import KINDS
+from goo_service.records.schema import folded
 
 Row = dict[str, Any]
 Given = Mapping[str, str]
 """The parameters of a question, each by its name."""
 Condition = tuple[str, Sequence[Any]]
 """A condition as SQL, and its values."""
-MOST, USUAL, MOST_IN_FILE = 1000, 100, 100_000
-"""Rows of one answer, and of one that is saved as a file."""
-DAYS = ('from', 'to', 'expires_before')
+MOST, USUAL = 1000, 100
+"""Rows of one answer."""
+FILES = {'csv': 100_000, 'csv-bom': 100_000, 'xlsx': 50_000}
+"""The kinds of files, and the most rows of each."""
+DAYS = ('from', 'to', 'expires_before', 'commissioned_from', 'commissioned_to')
 """Parameters that are days."""
-WHOLE = ('account', 'peer', 'number', 'origin')
+WHOLE = ('account', 'peer', 'number', 'origin', 'bundle', 'capacity_from', 'capacity_to')
 """Filters that are whole numbers."""
 WORDS = {'kind': (*KINDS.values(), 'expiry', 'unreadable'),
          'outcome': ('accepted', 'refused', 'unreadable', 'set aside')}
@@ -32,6 +35,8 @@ WORDS = {'kind': (*KINDS.values(), 'expiry', 'unreadable'),
 IS_SET = {'1': True, 'yes': True, 'true': True, '0': False, 'no': False, 'false': False}
 """The values of a parameter that is set or not."""
 ALL: Condition = ('TRUE', ())
+MOST_LETTERS = 200
+"""Letters of a text that is looked for."""
 
 
 class NotFound(Exception):
@@ -167,6 +172,32 @@ def day_of(given: Given, name: str) -> str | None:
     raise BadQuestion(f'{name} is {text!r}, and not a day as 2025-03-31')
 
 
+def text_of(given: Given) -> str:
+    """The text that is looked for, folded; nothing where none is given."""
+    text = given.get('q') or ''
+    if len(text) > MOST_LETTERS:
+        raise BadQuestion(f'q is of {len(text)} letters, and of {MOST_LETTERS} at most')
+    return folded(text)
+
+
+def threes_in(text: str) -> str:
+    """The threes of letters that all of a text is made of, in the language of FTS5."""
+    places = {*range(0, len(text) - 2, 3), len(text) - 3}
+    return ' '.join(quoted(text[at:at + 3]) for at in sorted(places))
+
+
+def quoted(three: str) -> str:
+    """Three letters in the language of FTS5, whatever they are."""
+    return '"{}"'.format(three.replace('"', '""'))
+
+
+def plant_filters(table: str) -> dict[str, str]:
+    """Filters by the age and the capacity of a device."""
+    return {f'{name}_{end}': f'{table}.{column} {sign} ?'
+            for name, column in (('commissioned', 'commissioned'), ('capacity', 'capacity_w'))
+            for end, sign in (('from', '>='), ('to', '<='))}
+
+
 # -------------------------------------------------------------------- rows
 
 def rows_of(database: sqlite3.Connection, text: str, values: Iterable[Any] = ()) -> list[Row]:
@@ -182,8 +213,8 @@ def read(database: sqlite3.Connection, text: str, values: Iterable[Any] = ()) ->
 
 def limit_of(given: Given) -> int:
     """The most rows of an answer."""
-    is_file = given.get('format') == 'csv'
-    usual, most = (MOST_IN_FILE, MOST_IN_FILE) if is_file else (USUAL, MOST)
+    of_file = FILES.get(given.get('format') or '')
+    usual, most = (of_file, of_file) if of_file else (USUAL, MOST)
     return min(number_or(usual, given, 'limit', least=1), most)
 
 

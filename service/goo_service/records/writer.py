@@ -59,12 +59,17 @@ class Writer:
         """Writes the book to its place, ready for readers beside the writer. The same rows give the
         same bytes there: in what order pages were filled no longer shows."""
         self.database.executescript(INDEXES)
-        self.database.execute(INDEXED, (0,))
+        self.index(0)
         self.database.execute('VACUUM INTO ?', (str(path),))
         self.close()
         self.path.unlink()
         self.path, self.database, self.indexed = path, connect(path), self.acts
         self.database.executescript(SAFE)
+
+    def index(self, after: int) -> None:
+        """Adds the acts after one to the indexes of texts."""
+        for statement in INDEXED:
+            self.database.execute(statement, (after,))
 
     def close(self) -> None:
         self.database.close()
@@ -83,7 +88,7 @@ class Writer:
             self.write_rows()
             self.write_runs()
             if self.indexed is not None:
-                self.database.execute(INDEXED, (self.indexed,))
+                self.index(self.indexed)
             counters = [self.registry.next[name] for name in COUNTERS]
             numbers = ', '.join(f'{name} = ?' for name in COUNTERS)
             self.database.execute(

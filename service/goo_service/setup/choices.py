@@ -5,6 +5,7 @@ import pathlib
 import re
 from dataclasses import dataclass
 
+from goo_service.records import settings
 from goo_service.setup import three
 from goo_service.setup.common import CLOSED
 from goo_service.setup.common import Refused
@@ -30,6 +31,10 @@ def is_code(text: str) -> bool:
     return text.isascii() and text.isdigit() and 1 <= int(text) <= 99
 
 
+def is_directory(text: str) -> bool:
+    return text in (settings.SHOWN, settings.HIDDEN)
+
+
 def is_day(text: str) -> bool:
     try:
         return datetime.date.fromisoformat(text).isoformat() == text
@@ -44,6 +49,8 @@ class Beginning:
     name: str | None = None
     date: str | None = None
     next_serial: str | None = None
+    body_name: str | None = None
+    body_address: str | None = None
     certificate: str | None = None
     key: str | None = None
     user: str | None = None
@@ -53,6 +60,7 @@ class Beginning:
     alone: bool = False
     hosts: str | None = None
     join: str | None = None
+    directory: str | None = None
 
     @classmethod
     def of(cls, given: argparse.Namespace) -> 'Beginning':
@@ -69,6 +77,8 @@ class Beginning:
             raise Refused('--certificate and --key belong together')
         if self.date and not is_day(self.date):
             raise Refused(f'--date {self.date}: a day is written as 2026-03-01')
+        if self.directory and not is_directory(self.directory):
+            raise Refused(f'--directory {self.directory}: it is shown or hidden')
         if self.balancer and not (self.hosts and three.is_address(self.balancer)):
             raise Refused(f'--balancer {self.balancer}: it is an address of IPv4, and belongs to '
                           '--hosts')

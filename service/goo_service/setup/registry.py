@@ -9,6 +9,10 @@ import sys
 from collections.abc import Callable
 from dataclasses import dataclass
 
+from goo_service.records import settings
+from goo_service.records.body import Body
+from goo_service.records.body import is_address as is_body_address
+from goo_service.records.body import is_name as is_body_name
 from goo_service.setup import choices
 from goo_service.setup import people
 from goo_service.setup.choices import Beginning
@@ -24,6 +28,7 @@ from goo_service.setup.common import code_of_registry
 from goo_service.setup.common import goo
 from goo_service.setup.common import holds_registry
 from goo_service.setup.common import make_folder
+from goo_service.setup.common import read_as
 from goo_service.setup.common import report
 from goo_service.setup.common import run
 from goo_service.setup.common import text_of
@@ -33,10 +38,14 @@ from goo_service.setup.questions import answer_or_default
 from goo_service.setup.questions import read_password
 
 CHAIN, KEY = ETC / 'tls/cert.pem', ETC / 'tls/key.pem'
-BEGUN = '# How the book of acts begins (RECORDS.md)\nGOO_RECORDS_BEGIN=--begun {}\n'
+RECORDS = ETC / 'records.conf'
+DIRECTORY_ASKED = 'whether holders see whose accounts there are, by code and name: shown or hidden'
 NAME_ASKED = "the host's name, as it stands in the certificate"
 USER_ASKED = 'the first user, somebody of the issuing body'
 CODE_ASKED = "the registry's code, 1 to 99, that no other registry has"
+BODY_ASKED = "the issuing body's name, as its documents have it; empty: the registry's code alone"
+BODY_ADDRESS_ASKED = "the issuing body's address, on one line"
+KEY_OF_CODES = re.compile('[0-9a-f]{64,256}')
 CHAIN_ASKED = "the certificate's file; empty: one that this host signs itself, for a trial"
 SIGN = ('openssl', 'req', '-x509', '-newkey', 'ec', '-pkeyopt', 'ec_paramgen_curve:P-256', '-nodes',
         '-days', '365')
@@ -61,10 +70,41 @@ def place_secret(name: str, owner: str, make: Callable[[], str]) -> None:
 
 
 def place_secrets() -> None:
-    """The keys that sign what the exchange publishes and the entries of the log."""
+    """The keys that sign what the exchange publishes, the entries of the log, and documents."""
     place_secret('exchange.key', 'goo-agent',
                  lambda: run('openssl', 'genpkey', '-algorithm', 'ED25519'))
     place_secret('replica.key', 'goo-replica', lambda: f'{secrets.token_hex(32)}\n')
+    place_secret('code.key', 'goo-records', key_of_codes)
+    place_secret('documents.key', 'goo-records',
+                 lambda: run('openssl', 'genpkey', '-algorithm', 'ED25519'))
+    public = run('openssl', 'pkey', '-in', ETC / 'documents.key', '-pubout')
+    if text_of(ETC / 'documents.pub') != public:
+        write(ETC / 'documents.pub', public)
+
+
+def key_of_codes() -> str:
+    """The key of check codes: the one that the records have made on this host, so that documents
+    of before have the codes that they had, or a new one. Hosts that join have it from the first."""
+    earlier = read_as('goo-records', BOOK / 'code.key').strip()
+    return f'{earlier if KEY_OF_CODES.fullmatch(earlier) else secrets.token_hex(32)}\n'
+
+
+def place_body(given: Beginning) -> None:
+    """The issuing body's name and address, as its documents have them."""
+    path = ETC / 'body.conf'
+    is_new = not path.exists()
+    if is_new:
+        name = asked_or_given(given.body_name, BODY_ASKED, is_body_name)
+        address = asked_or_given(given.body_address, BODY_ADDRESS_ASKED, is_body_address)
+        write(path, Body(name, address).text())
+    report(path, is_new)
+
+
+def asked_or_given(given: str | None, what: str, is_usable: Callable[[str], object]) -> str:
+    """What was given as an option, or is typed; empty where nobody answers."""
+    if given is None:
+        return answer_or_default(what, '', is_usable)
+    return answer(given, what, is_usable)
 
 
 @dataclass(frozen=True)
@@ -151,17 +191,33 @@ def place_registry(given: Beginning) -> bool:
         code = int(answer(given.code, CODE_ASKED, choices.is_code))
         today = datetime.date.today().isoformat()
         day = given.date or answer_or_default("the registry's date", today, choices.is_day)
-        conf = ETC / 'records.conf'
-        earlier = text_of(conf)
-        write(conf, BEGUN.format(f'{code} {day} {given.next_serial or 1}'))
+        earlier = text_of(RECORDS)
+        place_beginning(f'{code} {day} {given.next_serial or 1}')
         serial = ('--next-serial', given.next_serial) if given.next_serial else ()
         fault = goo('init', '--code', code, '--today', day, *serial)
         if 'already there' in fault and earlier:
-            write(conf, earlier)
+            write(RECORDS, earlier)
             fault = goo('run')
         if fault:
             raise Refused(f'{DATABASE}: {fault}')
     return report(DATABASE, is_new)
+
+
+def place_beginning(begun: str) -> None:
+    """How the book of acts begins: code, day and first number of the registry."""
+    write(RECORDS, settings.with_setting(text_of(RECORDS), settings.BEGIN, f'--begun {begun}'))
+
+
+def place_directory(given: Beginning) -> bool:
+    """Whether holders see the directory: as given, as it stands, or as is answered. Whether it was
+    changed."""
+    text = text_of(RECORDS)
+    before = settings.value_of(text, settings.DIRECTORY)
+    value = given.directory or before or answer_or_default(
+        DIRECTORY_ASKED, settings.SHOWN, choices.is_directory)
+    if value != before:
+        write(RECORDS, settings.with_setting(text, settings.DIRECTORY, value))
+    return report(f'{RECORDS}: the directory of accounts is {value}', value != before)
 
 
 def place_exchange() -> None:

@@ -5,7 +5,6 @@ import ssl
 
 from goo_service.setup.common import COPIES
 from goo_service.setup.common import DATABASE
-from goo_service.setup.common import ETC
 from goo_service.setup.common import LED
 from goo_service.setup.common import LOG
 from goo_service.setup.common import NGINX
@@ -22,7 +21,8 @@ from goo_service.setup.common import run
 from goo_service.setup.common import units
 from goo_service.setup.common import words_of_log
 from goo_service.setup.common import write
-from goo_service.setup.registry import BEGUN
+from goo_service.setup.registry import RECORDS
+from goo_service.setup.registry import place_beginning
 
 LINKS = {'nginx/main.conf': NGINX / 'modules-enabled/90-goo.conf',
          'nginx/nginx.service.conf': SYSTEMD / 'nginx.service.d/goo.conf'}
@@ -67,9 +67,9 @@ def place_log() -> bool:
         if is_new:
             run(REPLICA, 'found')
         run(REPLICA, 'first-copy')
-        if not (ETC / 'records.conf').exists():     # a registry by hand, without any request
+        if not RECORDS.exists():        # a registry by hand, without any request
             begun = read_meta(DATABASE, "code || ' ' || today || ' ' || next_serial", FORM_OF_META)
-            write(ETC / 'records.conf', BEGUN.format(begun))
+            place_beginning(begun)
     return report(f'{LOG}: the log of requests', is_new)
 
 

@@ -16,7 +16,7 @@ const DEVICES = Array.from({length: 1500}, (_, i) => ({gsrn: String(500000000000
 
 /** A part of a list, as the records show it. */
 function part(path, items) {
-  const asked = new URLSearchParams(path.split('?')[1]), limit = Number(asked.get('limit') ?? 100), offset = Number(asked.get('offset') ?? 0);
+  const asked = new URLSearchParams(path.split('?')[1]), limit = Number(asked.get('limit') ?? 100), offset = Number(asked.get('after') ?? 0);
   const shown = items.slice(offset, offset + limit);
   return page(shown, shown.length === limit ? offset + limit : null);
 }

@@ -26,39 +26,63 @@ test('ranges that follow each other are one, of 100 lots at most, and no number 
 });
 
 const begin = () => { localStorage.clear(); session.caller = 'SUN'; };
-const accepted = json({outcome: 'accepted', reply: {count: 1, cancellation: 1}});
+const accepted = {outcome: 'accepted', reply: {count: 1, cancellation: 1}};
+const lines = (...of) => ({text: of.map((one) => `${JSON.stringify(one)}\n`).join(''), fields: {'GOO-Entry': '7'}});
+const sentLines = ({body}) => body.trimEnd().split('\n').map((line) => JSON.parse(line));
 
-test('each range of a bundle is sent once, under a key of its own', async () => {
+test('a bundle goes as one, whole, each range under a key of its own', async () => {
   begin();
-  const ranges = Array.from({length: 250}, (_, i) => run(2 * i + 1, 2 * i + 1)), sent = answering(() => accepted);
-  await carry(bundleOf('transfer', {giver: 1, taker: 2}, ranges, 'told'), h('div'));
-  const bodies = sent.map(({body}) => JSON.parse(body));
+  const ranges = Array.from({length: 250}, (_, i) => run(2 * i + 1, 2 * i + 1)), sent = answering(() => lines(...ranges.map(() => accepted)));
+  const shown = h('div'), bundle = bundleOf('transfer', {giver: 1, taker: 2}, ranges, 'told');
+  await carry(bundle, shown);
+  assert.deepEqual(sent.map(({path}) => path), ['/v1/bundles?whole=yes']);
+  const bodies = sentLines(sent[0]);
   assert.deepEqual(bodies.map((of) => of.first), ranges.map((of) => of.first));
   assert.equal(new Set(bodies.map((of) => of.key)).size, 250);
   assert.ok(bodies.every((of) => of.command === 'transfer' && of.giver === 1 && of.taker === 2 && of.key.length <= 40));
+  assert.ok(shown.textContent.includes('250 certificates moved'));
+  assert.deepEqual([Object.keys(localStorage), bundle.entry], [[], 7]);
+});
+
+test('a bundle without an answer is kept, and sent again as it was', async () => {
+  begin();
+  const bundle = bundleOf('cancel', {account: 1}, [run(1, 1), run(3, 3)], 'told');
+  for (const status of [null, 502, 503, 504]) {
+    const first = answering(() => status && {status, text: 'no JSON'});
+    await carry(bundle, h('div'));
+    const [left] = openBundles(), second = answering(() => lines({...accepted, outcome: 'repeated'}, accepted));
+    assert.deepEqual(left.ranges.map((of) => of.key), bundle.ranges.map((of) => of.key));
+    await carry(left, h('div'));
+    assert.equal(second[0].body, first[0].body);
+    assert.deepEqual([openBundles(), Object.keys(localStorage)], [[], []]);
+  }
+});
+
+test('a bundle waits where fewer are wanted, or nothing can be tried', async () => {
+  begin();
+  const later = [json({error: 'too often'}, 429, {'Retry-After': '6'}), json({error: 'no room'}, 503, {'Retry-After': '10'})];
+  const sent = answering((path, words, turn) => later[turn - 1] ?? lines(accepted)), shown = h('div');
+  await carry(bundleOf('transfer', {}, [run(1, 1)], 'told'), shown);
+  assert.equal(sent.length, 3);
+  assert.equal(new Set(sent.map(({body}) => body)).size, 1);
+  assert.ok(shown.textContent.includes('All 1 requests are accepted'));
+});
+
+test('a bundle that is refused whole names the range', async () => {
+  begin();
+  answering(() => json({outcome: 'refused', code: 17, name: 'NotHeld', number: text(3), line: 2, key: 'k'}, 409));
+  const shown = h('div');
+  await carry(bundleOf('transfer', {}, [run(1, 1), run(3, 3)], 'told'), shown);
+  assert.ok(shown.textContent.includes('Nothing was done: Refused: NotHeld (17)') && shown.textContent.includes('2 of 2'), shown.textContent);
   assert.deepEqual(Object.keys(localStorage), []);
 });
 
-test('a bundle that stops goes on with what has no answer, under the same keys', async () => {
+test('where each goes by itself a refusal does not hold up the others, and another caller has none of it', async () => {
   begin();
-  const bundle = bundleOf('cancel', {account: 1}, [run(1, 1), run(3, 3), run(5, 5), run(7, 7)], 'told');
-  const first = answering((path, words, turn) => turn === 3 ? null : accepted);
-  await carry(bundle, h('div'));
-  const [left] = openBundles();
-  assert.deepEqual(left.ranges.map((of) => Boolean(of.answer)), [true, true, false, false]);
-  const second = answering(() => accepted);
-  await carry(left, h('div'));
-  assert.deepEqual(second.map(({body}) => body), [first[2].body, second[1].body]);
-  assert.equal(JSON.parse(second[1].body).first, text(7));
-  assert.deepEqual([openBundles(), Object.keys(localStorage)], [[], []]);
-});
-
-test('a refusal in a bundle does not hold up the others, and another caller has none of it', async () => {
-  begin();
-  const sent = answering((path, words, turn) => turn === 1 ? json({outcome: 'refused', code: 17, number: text(1)}, 409) : accepted);
-  const shown = h('div'), bundle = bundleOf('transfer', {}, [run(1, 1), run(3, 3)], 'told');
-  await carry(bundle, shown);
-  assert.equal(sent.length, 2);
+  const sent = answering(() => lines({outcome: 'refused', code: 17, number: text(1)}, accepted));
+  const shown = h('div');
+  await carry(bundleOf('transfer', {}, [run(1, 1), run(3, 3)], 'told', false), shown);
+  assert.deepEqual(sent.map(({path}) => path), ['/v1/bundles']);
   assert.ok(shown.textContent.includes('1 of 2 requests were refused') && shown.textContent.includes('1 certificates moved'));
   answering(() => null);
   await carry(bundleOf('transfer', {}, [run(1, 1)], 'told'), shown);

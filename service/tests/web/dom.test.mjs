@@ -2,7 +2,7 @@
 import assert from 'node:assert/strict';
 import {test} from 'node:test';
 import {texts} from './shared.mjs';
-import {facts, longTable, number, special, table, written} from '../web/dom.js';
+import {facts, h, longTable, number, special, table, written} from '../web/dom.js';
 import * as words from '../web/words.js';
 
 test('a certificate\'s number is its fourteen digits', () => {
@@ -23,12 +23,18 @@ test('a table has each value under its head', () => {
     [['One', 'a'], ['Two', 'b'], ['Three', 'c'], ['One', 'd'], ['Two', 'e'], ['Three', '']]);
 });
 
-test('of a long table the head is shown, and the rest when it is asked for', () => {
+test('of a long table the head is shown, and it goes on when more is asked for', () => {
   const rows = (n) => Array.from({length: n}, (_, i) => [String(i)]);
-  assert.equal(longTable('T', [['A']], rows(400)).length, 1);
-  const [short, button] = longTable('T', [['A']], rows(401));
-  assert.deepEqual(texts(short, 'td').length, 400);
-  assert.equal(button.textContent, 'Show the other 1');
+  const made = (n) => h('div', {}, longTable('T', [['A']], rows(n)));
+  const buttons = (of) => [...of.getElementsByTagName('button')].filter(({hidden}) => !hidden).map(({textContent}) => textContent);
+  assert.deepEqual([texts(made(400), 'td').length, buttons(made(400))], [400, []]);
+  assert.deepEqual([texts(made(401), 'td').length, buttons(made(401))], [400, ['Show the other 1']]);
+  const long = made(1000), press = (name) => [...long.getElementsByTagName('button')].find((of) => of.textContent === name).click();
+  assert.deepEqual(buttons(long), ['Show the next 400', 'Show the other 600']);
+  press('Show the next 400');
+  assert.deepEqual([texts(long, 'td'), buttons(long)], [rows(800).flat(), ['Show the other 200']]);
+  press('Show the other 200');
+  assert.deepEqual([texts(long, 'td'), buttons(long), texts(long, 'caption')], [rows(1000).flat(), [], ['T']]);
 });
 
 test('facts keep name and value together', () => {

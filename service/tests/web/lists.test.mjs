@@ -25,7 +25,7 @@ test('a cancellation is listed with its beneficiary and its own numbers', async 
 });
 
 test('a declaration counts its certificates by their numbers', async () => {
-  const of = {day: '2025-03-01', act: 4, device: '500000000000000012', first_day: '2025-01-01', last_day: '2025-01-31', gross_wh: 5_000_001, aux_wh: 1, corrected_wh: 0, first: '07000000000001', last: '07000000000005', key: 'c1'};
+  const of = {day: '2025-03-01', act: 4, device: '500000000000000012', site: 'North', first_day: '2025-01-01', last_day: '2025-01-31', gross_wh: 5_000_001, aux_wh: 1, corrected_wh: 0, first: '07000000000001', last: '07000000000005', key: 'c1'};
   const {row} = await drawn('declarations', of);
   assert.deepEqual([row.Count, row['Gross in Wh'], row['Auxiliaries in Wh'], row.Certificates, row.Key], ['5', '5,000,001', '1', '07000000000001 to 07000000000005', 'c1']);
   assert.equal((await drawn('declarations', {...of, first: null, last: null})).row.Count, '0');
@@ -39,12 +39,12 @@ test('a notice tells its way and what became of it', async () => {
 });
 
 test('the next page is asked from where this one ends, and the page before from where it began', async () => {
-  const {page, sent} = await drawn('withdrawals', {number: 1, day: '2025-03-01', act: 4, count: 3, first: null, reason: 'x'}, 100);
+  const {page, sent} = await drawn('withdrawals', {number: 1, day: '2025-03-01', act: 4, count: 3, first: null, reason: 'x'}, 'b');
   const press = async (name) => { [...page.getElementsByTagName('button')].find((of) => of.textContent === name).click(); for (let turns = 0; turns < 5; turns++) await soon(); };
   await press('Next page');
   await press('Next page');
   await press('Page before');
-  assert.deepEqual(sent.map(({path}) => new URL(path, 'https://x').searchParams.get('offset')), [null, '100', '100', '100']);
+  assert.deepEqual(sent.map(({path}) => new URL(path, 'https://x').searchParams.get('after')), [null, 'b', 'b', 'b']);
   assert.ok(sent.every(({path}) => path.includes('limit=100')));
 });
 

@@ -3,56 +3,60 @@ import assert from 'node:assert/strict';
 import {test} from 'node:test';
 import {answering, chance, json, texts} from './shared.mjs';
 import {paper} from '../web/documents.js';
-import {asList, coded, sheet} from '../web/paper.js';
+import {asList, qr, sheet} from '../web/paper.js';
 import {records} from '../web/records.js';
 
-const LOT = {first: '07000000000001', last: '07000000000010', count: 10, first_day: '2025-01-01', last_day: '2025-01-31', site: 'North field', device: '500000000000000012',
-  country: 'DE', tech: 'T010000', source: 'F01040100', carrier: 'electricity', capacity_w: 2_000_000, commissioned: '2020-06-15', support: 'none', issued_on: '2025-03-01', origin: 7};
-const ONE = {number: 3, registry: 7, day: '2025-04-05', account: 12, holder: 'SUN', name: 'Sun Power', beneficiary: 'Rathaus Beispielstadt', use_first: '2025-02-01', use_last: '2025-02-28', count: 10, lots: [LOT]};
+const ONE = {language: 'en', number: '07-3-2', code: 'ABCD-EFGH-IJKL-MNOP', house: 'Registry of guarantees of origin 07', title: 'Document of cancellation 07-3-2',
+  claim: ['15 MWh', ' of energy, used from 2025-02-01 to 2025-02-28 by ', 'Rathaus Beispielstadt'], facts: [{name: 'Issuing body', lines: ['Umweltamt', 'Hauptstraße 1', 'registry 07']}, {name: 'Beneficiary', lines: ['Rathaus Beispielstadt']}],
+  notes: [], tables: [{caption: 'By month', columns: [{name: 'Month', kind: ''}, {name: 'MWh', kind: 'right'}], rows: [[['2025-01'], ['15']]]},
+    {caption: 'Certificates cancelled', columns: [{name: 'Plant', kind: 'wide'}, {name: 'Certificates', kind: 'ranges'}], rows: [[['North field', 'Germany DE'], ['07000000000001 – 07000000000010 (10)', '07000000000012 (1)']], [['In all'], []]]}],
+  check: {name: 'Check code', code: 'ABCD-EFGH-IJKL-MNOP', text: 'Anybody can check this.'}, address: 'https://registry.example/verify.html?number=07-3-2&code=ABCDEFGHIJKLMNOP', qr: ['101', '010', '111'],
+  foot: 'Guarantees of origin.', each_page: 'Document 07-3-2, check code ABCD-EFGH-IJKL-MNOP', page: 'page {} of {}'};
+const ITEMS = [{number: 3, account: 12}, {number: 5, account: 12}];
 const factsOf = (made) => Object.fromEntries(texts(made, 'dt').map((name, i) => [name, texts(made, 'dd')[i]]));
 const claimOf = (made) => [...made.getElementsByTagName('p')].find((of) => of.className === 'claim').textContent;
-const cellsOf = (made, at) => Object.fromEntries([...made.getElementsByTagName('td')].slice(at, at + 7).map((of) => [of.getAttribute('data-name'), of.textContent]));
 
-test('a document names its beneficiary, and its holder apart', () => {
-  const made = sheet([ONE], 'ABCD-EFGH-IJKL-MNOP'), named = factsOf(made);
-  assert.equal(claimOf(made), '10 MWh of energy, used from 2025-02-01 to 2025-02-28 by Rathaus Beispielstadt');
-  assert.deepEqual([named.Beneficiary, named.Holder, named['Period of use'], named['Day of cancellation'], named.Certificates, named['Issuing body']],
-    ['Rathaus Beispielstadt', 'SUN Sun Power, account 12', '2025-02-01 to 2025-02-28', '2025-04-05', '10 of 1 MWh each', 'registry 07']);
-  assert.ok(made.textContent.includes('Check code ABCD-EFGH-IJKL-MNOP') && made.textContent.includes('type the numbers 3 and this code'));
-  assert.deepEqual(texts(made, 'h1'), ['Cancellation 3']);
-});
+/** Every text of a document, as the records have it. */
+const textsOf = (of) => [of.house, of.title, of.claim.join(''), ...of.facts.flatMap(({name, lines}) => [name, ...lines]), ...of.notes, ...of.tables.flatMap(({caption, columns, rows}) => [caption, ...columns.filter(({kind}) => kind !== 'ranges').map(({name}) => name), ...rows.flat(2)]),
+  of.check.name, of.check.code, of.check.text, of.foot];
 
-test('each lot has what was produced, where and how', () => {
-  assert.deepEqual(cellsOf(sheet([ONE], null), 0), {Certificates: '07000000000001 to 07000000000010', Count: '10', Produced: '2025-01-01 to 2025-01-31', Plant: 'North field500000000000000012Germany DE',
-    'Technology and source': 'Photovoltaic T010000Solar F01040100electricity'.replace('Photovoltaic', coded('tech', 'T010000').textContent.replace(' T010000', '')),
-    Installation: '2 MWsince 2020-06-15no support', Issued: '2025-03-01registry 07'});
-});
-
-test('a cancellation of several lots has a row for each', () => {
-  const made = sheet([{...ONE, count: 15, lots: [LOT, {...LOT, first: '07000000000011', last: '07000000000015', count: 5, site: 'South'}]}], null);
-  assert.deepEqual(texts(made, 'td').filter((_, i) => i % 7 === 1), ['10', '5']);
-  assert.ok(made.textContent.includes('North field') && made.textContent.includes('South'));
-});
-
-test('several for one use are added up under one beneficiary', () => {
-  const made = sheet([ONE, {...ONE, number: 4, count: 5, lots: [{...LOT, first: '07000000000011', last: '07000000000015', count: 5}]}], 'X');
+test('every text of a document stands on its sheet', () => {
+  const made = sheet(ONE), said = made.textContent;
+  for (const text of textsOf(ONE)) assert.ok(said.includes(text), text);
   assert.equal(claimOf(made), '15 MWh of energy, used from 2025-02-01 to 2025-02-28 by Rathaus Beispielstadt');
-  assert.deepEqual(texts(made, 'h1'), ['Cancellations 3-4']);
-  assert.deepEqual(texts(made, 'td').filter((_, i) => i % 7 === 1), ['10', '5']);
+  assert.deepEqual(texts(made, 'h1'), ['Document of cancellation 07-3-2']);
+  assert.deepEqual(factsOf(made), {'Issuing body': 'UmweltamtHauptstraße 1registry 07', Beneficiary: 'Rathaus Beispielstadt'});
 });
 
-test('several of different uses have a row each, and no beneficiary of all', () => {
-  for (const other of [{beneficiary: 'Volt'}, {use_last: '2025-03-31'}, {account: 13}]) {
-    const made = sheet([ONE, {...ONE, number: 7, day: '2025-04-07', ...other}], 'X'), named = factsOf(made);
-    assert.ok(!('Beneficiary' in named) && !claimOf(made).includes('Rathaus'));
-    assert.equal(named['Day of cancellation'], '2025-04-05 to 2025-04-07');
-    assert.deepEqual(texts(made, 'td').slice(0, 10).filter((_, i) => i % 5 === 2), ['Rathaus Beispielstadt', other.beneficiary ?? 'Rathaus Beispielstadt']);
+test('a sheet has the rows of its document, in their order', () => {
+  assert.deepEqual(texts(sheet(ONE), 'td'), ['2025-01', '15', 'North fieldGermany DE', '07000000000001 – 07000000000010 (10)07000000000012 (1)', 'In all']);
+  assert.deepEqual([...sheet(ONE).getElementsByTagName('td')].map((of) => of.getAttribute('data-name')), ['Month', 'MWh', 'Plant', 'Certificates', 'Plant']);
+});
+
+test('a name that deceives is shown by its codes', () => {
+  assert.ok(claimOf(sheet({...ONE, claim: [ONE.claim[0], ONE.claim[1], 'Rat\u202ehaus']})).endsWith('RatU+202Ehaus'));
+});
+
+test('a QR code has a square for each dark module, and light ones around', () => {
+  const dark = [...qr(['101', '010', '111'], 'x').getElementsByTagName('rect')].slice(1).map((of) => ['x', 'y', 'width'].map((name) => Number(of.getAttribute(name))));
+  assert.deepEqual(dark, [[4, 4, 1], [6, 4, 1], [5, 5, 1], [4, 6, 3]]);
+  assert.equal(sheet({...ONE, qr: []}).getElementsByTagName('rect').length, 0);
+});
+
+test('each printed page has the number, the code and the page of pages', () => {
+  const before = document.adoptedStyleSheets?.filter((of) => !of.isFoot).length;
+  sheet(ONE);
+  const made = sheet({...ONE, each_page: 'Document "1"\n', page: 'Seite {} von {}'});
+  if (!('CSSMarginRule' in globalThis)) {
+    assert.ok(made.textContent.includes('Document "1"'));
+    return;
   }
-});
-
-test('a name that deceives is shown by its codes, and told', () => {
-  const made = sheet([{...ONE, beneficiary: 'Rat\u202ehaus'}], 'X');
-  assert.ok(claimOf(made).endsWith('RatU+202Ehaus') && made.textContent.includes('U+202E right-to-left override'));
+  const feet = document.adoptedStyleSheets.filter((of) => of.isFoot);
+  assert.equal(feet.length, 1);
+  const rule = feet[0].cssRules[0].cssText;
+  assert.ok(rule.includes('counter(page)') && rule.includes('counter(pages)') && rule.includes('"Seite "') && rule.includes('" von "'), rule);
+  dispatchEvent(new Event('beforeprint'));
+  assert.equal(document.adoptedStyleSheets.length, before, 'a sheet that is gone leaves no foot');
 });
 
 test('a list of numbers says each number once', () => {
@@ -87,15 +91,17 @@ test('without the records the registry\'s own text is the document', async () =>
 
 test('with the records it is theirs, with its code', async () => {
   records.isThere = true;
-  const sent = answering(() => json({items: [ONE], text: TEXT, code: 'ABCD-EFGH-IJKL-MNOP'}));
-  const [, made] = await paper('3');
-  assert.deepEqual(sent.map(({path}) => path), ['/records/v1/documents?numbers=3']);
-  assert.ok(made.textContent.includes('ABCD-EFGH-IJKL-MNOP') && claimOf(made).endsWith('Rathaus Beispielstadt'));
+  const sent = answering(() => json({number: '07-3-2', items: ITEMS, text: TEXT, code: ONE.code, paper: ONE}));
+  for (const [given, asked] of [['3,5', '3%2C5'], ['07-3-2', '07-3-2']]) {
+    const [, made] = await paper(given);
+    assert.equal(sent.at(-1).path, `/records/v1/documents?numbers=${asked}&lang=en`);
+    assert.ok(made.textContent.includes('ABCD-EFGH-IJKL-MNOP') && claimOf(made).endsWith('Rathaus Beispielstadt'));
+  }
   records.isThere = false;
 });
 
 test('of an address only numbers are asked for', async () => {
   const sent = answering(() => ({text: TEXT}));
-  for (const odd of ['1/../2', '', 'x', '1234567890', '%31']) await paper(odd);
+  for (const odd of ['1/../2', '', 'x', '1234567890', '%31', '1-2-3-4']) await paper(odd);
   assert.deepEqual(sent, []);
 });

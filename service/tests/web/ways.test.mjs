@@ -84,7 +84,7 @@ test('an address has the parameters that have a value', () => {
 
 /** A list of so many items, by pages of at most 1,000 as the records give them. */
 const listOf = (count, more) => (path) => {
-  const given = new URL(path, 'https://x').searchParams, offset = Number(given.get('offset') ?? 0), limit = Number(given.get('limit'));
+  const given = new URL(path, 'https://x').searchParams, offset = Number(given.get('offset') ?? given.get('after') ?? 0), limit = Number(given.get('limit'));
   const end = Math.min(offset + limit, count);
   return json({items: Array.from({length: Math.max(0, end - offset)}, (_, i) => offset + i), next: end < count ? end : null, ...more});
 };

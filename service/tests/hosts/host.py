@@ -1,39 +1,47 @@
-"""A host with the package, for tools/trials/installed: commands, units, requests."""
+"""A host with the package, for the tests in this folder: commands, units, requests.
+
+The tests run as root under a systemd of their own, which tools/lib/own_systemd.py starts, and
+nowhere else. Those of a file share the host and run in the order in which they stand. Once one
+fails, those after it may fail for it: the first failure counts.
+"""
+import datetime
 import json
 import re
 import subprocess
-import sys
 import time
 from collections.abc import Callable
 from pathlib import Path
+from typing import Any
 
-from loopback import HOME
+TOP = Path(__file__).resolve().parents[3]
+REGISTRY, ETC, COPIES = Path('/var/lib/goo'), Path('/etc/goo'), Path('/var/backups/goo')
+LOG = Path('/var/lib/goo-replica')
+ARCHIVE = LOG / 'archive'
+NEW, OLD = 'goo_0.0.2_amd64.deb', 'goo_0.0.1_amd64.deb'
+TODAY = datetime.date.today()
+Done = subprocess.CompletedProcess[str]
 
-PASSWORD = 'a-trial-of-{}'
-"""The password of a user."""
-ARCHIVE, COPIES = Path('/var/lib/goo-replica/archive'), Path('/var/backups/goo')
-Done = subprocess.CompletedProcess
 
-
-def run(*words: object, **more: object) -> Done:
+def run(*words: object, **more: Any) -> Done:
     """A command to its end."""
-    return subprocess.run([str(word) for word in words], text=True, check=False,
-                          **{'capture_output': True, 'timeout': 300, **more})
+    how: dict[str, Any] = {'stdin': None, 'timeout': 300, **more}
+    return subprocess.run([str(word) for word in words], capture_output=True, text=True,
+                          check=False, **how)
 
 
-def shell(text: str) -> Done:
+def shell(text: str, stdin: str = '') -> Done:
     """A block of the handbook, which stops at its first failure."""
-    return run('bash', '-euo', 'pipefail', '-c', text, cwd='/root')
+    return run('bash', '-euo', 'pipefail', '-c', text, cwd='/root', input=stdin)
 
 
 def blocks(heading: str) -> list[str]:
     """The blocks of commands in a section of the handbook."""
-    for page in sorted((HOME / 'docs').glob('*.md')):
+    for page in sorted((TOP / 'docs').glob('*.md')):
         section = re.search(rf'(?ms)^##+ {heading}$(.*?)(?=^## |\Z)',
                             page.read_text(encoding='utf-8'))
         if section:
             return re.findall(r'(?ms)^ *```sh\n(.*?)^ *```$', section[1])
-    return sys.exit(f'no page of docs/ has a section "{heading}"')
+    raise LookupError(f'no page of docs/ has a section "{heading}"')
 
 
 def comes(is_so: Callable[[], object], seconds: float = 30) -> bool:
@@ -74,12 +82,22 @@ def failed() -> str:
     return run('systemctl', '--failed', '--plain', '--no-legend').stdout.strip()
 
 
+def active() -> str:
+    """The units of the package that run."""
+    return run('systemctl', 'list-units', '--plain', '--no-legend', '--state=active',
+               'goo*').stdout
+
+
 # ------------------------------------------------------------------ requests
 
-def at_door(user: str, path: str, body: object = None) -> tuple[str, str]:
+def password(user: str) -> str:
+    return f'a-trial-of-{user}'
+
+
+def at_door(user: str, path: str, body: object = None, word: str = '') -> tuple[str, str]:
     """Status and text of a request through the front door. By curl, as the handbook has it."""
     data = ['--data', json.dumps(body)] if body else []
-    done = run('curl', '-sk', '--max-time', '60', '-u', f'{user}:{PASSWORD.format(user)}',
+    done = run('curl', '-sk', '--max-time', '60', '-u', f'{user}:{word or password(user)}',
                '-w', '\n%{http_code}', *data, f'https://localhost{path}')
     text, _, status = done.stdout.rpartition('\n')
     return status, text
@@ -93,11 +111,21 @@ def by_socket(user: str, path: str, body: object = None, socket: str = 'door') -
                f'http://goo{path}').stdout
 
 
+def outcome_in(text: str) -> str:
+    """The outcome that an answer tells; where it tells none, the answer."""
+    found = re.search(r'"outcome":"(\w+)"', text)
+    return found[1] if found else text
+
+
 def outcome(body: object, user: str = 'office') -> str:
     """The outcome of a request at the front door; where there is none, what came."""
     status, text = at_door(user, '/v1/requests', body)
-    found = re.search(r'"outcome":"(\w+)"', text)
-    return found[1] if found else f'{status} {text}'
+    return outcome_in(text) if status == '200' else f'{status} {text}'
+
+
+def outcome_inside(key: str) -> str:
+    """The outcome of a request that opens a holder, by the log's socket."""
+    return outcome_in(by_socket('root', '/v1/requests', holder(key)))
 
 
 def holder(key: str) -> dict[str, str]:
@@ -121,19 +149,23 @@ def copies() -> list[Path]:
 
 # ------------------------------------------------------------------ the package
 
-def installs(package: str) -> Done:
+def install(package: str) -> Done:
     return run('dpkg', '--install', f'/mnt/{package}')
+
+
+def files_of_package() -> list[Path]:
+    return [Path(line) for line in run('dpkg', '--listfiles', 'goo').stdout.splitlines()]
 
 
 def set_up() -> Done:
     """A registry of this host alone, whose first user is office."""
-    password = Path('/root/office')
-    password.write_text(PASSWORD.format('office') + '\n', encoding='ascii')
+    file = Path('/root/office')
+    file.write_text(password('office') + '\n', encoding='ascii')
     return run('goo-setup', '--self-signed', '--alone', '--name', 'localhost', '--code', '7',
-               '--user', 'office', '--password-file', password, stdin=subprocess.DEVNULL)
+               '--user', 'office', '--password-file', file, stdin=subprocess.DEVNULL)
 
 
 def add_user(name: str, *words: str) -> Done:
-    password = Path('/root', name)
-    password.write_text(PASSWORD.format(name) + '\n', encoding='ascii')
-    return run('goo-setup', 'user', 'add', name, *words, '--password-file', password)
+    file = Path('/root', name)
+    file.write_text(password(name) + '\n', encoding='ascii')
+    return run('goo-setup', 'user', 'add', name, *words, '--password-file', file)

@@ -1,0 +1,198 @@
+"""Brings an old registry over: checks its tables, plans, rehearses, sends, and compares.
+
+usage: goo-migrate check FOLDER
+       goo-migrate plan FOLDER
+       goo-migrate rehearse FOLDER [--program PATH]
+       goo-migrate run FOLDER [--log SOCKET]
+       goo-migrate compare FOLDER DATABASE
+       goo-migrate protocol FOLDER DATABASE --key FILE
+       goo-migrate verify FOLDER [--public KEY]
+       goo-migrate attach FOLDER
+       goo-migrate close FOLDER
+       goo-migrate find FOLDER NUMBER [--new]
+
+FOLDER has the settings, migration.toml, and the old registry's tables in tables/ (MIGRATING.md).
+`check` reads and judges everything, and writes report.txt: nothing is planned while a fault stands
+that nobody waived by its name. `plan` writes the requests. `rehearse` carries them out in a
+registry of its own, in the folder `rehearsal`, and compares. `run` sends them to the log of this
+host; it may be stopped, and goes on when it is called again. `compare` and `protocol` hold a copy
+of the registry's database (of /var/backups/goo) against the tables; `protocol` signs what was
+found. `verify` checks a protocol and the files beside it. `attach` has the records of this host
+show the documents of the old registry to their holders. `close` has the log of this host take no
+notice of the old registry any more. `find` tells what became of a number.
+
+Exit status 0 where all is well, 1 where a fault or a difference was found, 2 for a usage error, 3
+where something can't be read or was not answered.
+"""
+import argparse
+import signal
+import sqlite3
+import sys
+from pathlib import Path
+
+from goo_service.common.client import FULL
+from goo_service.common.client import Client
+from goo_service.common.files import write_whole
+from goo_service.exchange.signature import Key
+from goo_service.log import closed
+from goo_service.log.closed import closed_in
+from goo_service.migrate import check
+from goo_service.migrate import documents
+from goo_service.migrate import enquiry
+from goo_service.migrate import plan
+from goo_service.migrate import protocol
+from goo_service.migrate import rehearsal
+from goo_service.migrate import sending
+from goo_service.migrate.numbers import NoRange
+from goo_service.migrate.settings import Settings
+from goo_service.migrate.settings import WrongSettings
+from goo_service.migrate.settings import read as settings_in
+from goo_service.migrate.sums import Comparison
+from goo_service.migrate.sums import compare
+
+LOG, PROGRAM = '/run/goo/door.sock', '/usr/bin/goo'
+GOOD, FOUND, USAGE, FAILED = range(4)
+TOLD = 20
+"""Faults of the report, and differences, that are shown at once."""
+
+
+def words() -> argparse.Namespace:
+    parser = argparse.ArgumentParser(prog='goo-migrate', description=__doc__,
+                                     formatter_class=argparse.RawDescriptionHelpFormatter)
+    verbs = parser.add_subparsers(dest='verb', required=True)
+    for name in VERBS:
+        verb = verbs.add_parser(name)
+        verb.add_argument('folder', type=Path, metavar='FOLDER')
+        if name in ('compare', 'protocol'):
+            verb.add_argument('database', type=Path, metavar='DATABASE')
+        if name == 'rehearse':
+            verb.add_argument('--program', default=PROGRAM, metavar='PATH',
+                              help=f'the registry\'s program ({PROGRAM})')
+        if name == 'run':
+            verb.add_argument('--log', default=LOG, metavar='SOCKET',
+                              help=f'where the log of requests listens ({LOG})')
+        if name == 'protocol':
+            verb.add_argument('--key', type=Path, required=True, metavar='FILE',
+                              help='the private key of the issuing body (Ed25519)')
+        if name == 'verify':
+            verb.add_argument('--public', metavar='KEY',
+                              help='the public key that must have signed')
+        if name == 'attach':
+            verb.add_argument('--into', type=Path, default=Path(documents.ATTACHMENTS),
+                              metavar='FOLDER', help=f'of the records ({documents.ATTACHMENTS})')
+        if name == 'close':
+            verb.add_argument('--closed', type=Path, default=Path(closed.PATH), metavar='FILE',
+                              help=f'the list of closed registries ({closed.PATH})')
+        if name == 'find':
+            verb.add_argument('number', metavar='NUMBER')
+            verb.add_argument('--new', action='store_true', help='it is a new number')
+    return parser.parse_args()
+
+
+def do_check(given: argparse.Namespace, settings: Settings) -> int:
+    found = check.check(given.folder, settings)
+    lines = (given.folder / check.REPORT).read_text(encoding='utf-8').splitlines()
+    print('\n'.join(lines[:TOLD]))
+    if len(lines) > TOLD:
+        print(f'.. see {given.folder / check.REPORT}')
+    print(f'{found.open:,} faults stand in the way' if found.open else 'nothing stands in the way')
+    return FOUND if found.open else GOOD
+
+
+def do_plan(given: argparse.Namespace, settings: Settings) -> int:
+    count = plan.write(given.folder, settings)
+    print(f'{count:,} requests in {given.folder / plan.NAME}')
+    return GOOD
+
+
+def do_rehearse(given: argparse.Namespace, settings: Settings) -> int:
+    done = rehearsal.rehearse(given.folder, settings, given.program)
+    print(done.text)
+    protocol.write_sums(given.folder, done.comparison)
+    return tell_comparison(done.comparison)
+
+
+def do_run(given: argparse.Namespace, settings: Settings) -> int:
+    del settings
+    client = Client(given.log, fields={**FULL, 'GOO-User': 'goo-migrate'})
+    count = sending.run(given.folder, client, lambda progress: print(progress.text, flush=True))
+    print(f'all {count:,} requests are answered as planned')
+    return GOOD
+
+
+def do_compare(given: argparse.Namespace, settings: Settings) -> int:
+    found = compare(given.folder, settings, given.database)
+    protocol.write_sums(given.folder, found)
+    return tell_comparison(found)
+
+
+def do_protocol(given: argparse.Namespace, settings: Settings) -> int:
+    key = Key(given.key)
+    found = compare(given.folder, settings, given.database)
+    protocol.write(given.folder, settings, found, key)
+    print(f'{given.folder / protocol.NAME}, signed in {given.folder / protocol.SIGNATURE}')
+    return tell_comparison(found)
+
+
+def do_verify(given: argparse.Namespace, settings: Settings) -> int:
+    del settings
+    faults = protocol.faults(given.folder, given.public)
+    print('\n'.join(faults) or 'signed, and all files are those of which it tells')
+    return FOUND if faults else GOOD
+
+
+def do_attach(given: argparse.Namespace, settings: Settings) -> int:
+    del settings
+    count = documents.attach(given.folder, given.into)
+    print(f'{count:,} documents are new in {given.into}')
+    return GOOD
+
+
+def do_close(given: argparse.Namespace, settings: Settings) -> int:
+    path = given.closed
+    line = f'{settings.old_code:02} {settings.old_name}, brought over by goo-migrate\n'
+    if str(settings.old_code) not in closed_in(path):
+        before = path.read_text(encoding='utf-8') if path.exists() else ''
+        write_whole(path, before + line, mode=0o644)
+    print(f'{path}: notices of registry {settings.old_code:02} are taken no more')
+    return GOOD
+
+
+def do_find(given: argparse.Namespace, settings: Settings) -> int:
+    found = (enquiry.by_new_number(given.folder, given.number) if given.new
+             else enquiry.by_old_number(given.folder, settings, given.number))
+    print(found.text if found else f'no certificate with the number {given.number} came over')
+    return GOOD if found else FOUND
+
+
+def tell_comparison(found: Comparison) -> int:
+    """Shows both sides, and the differences."""
+    for name, side in (('tables', found.stated), ('registry', found.held)):
+        print(f'{name}: {side.total:,} certificates in {side.ranges:,} ranges')
+    print('\n'.join(found.differences[:TOLD]) or 'no difference')
+    if found.count > TOLD:
+        print(f'.. {found.count:,} differences')
+    return FOUND if found.count else GOOD
+
+
+VERBS = {'check': do_check, 'plan': do_plan, 'rehearse': do_rehearse, 'run': do_run,
+         'compare': do_compare, 'protocol': do_protocol, 'verify': do_verify,
+         'attach': do_attach, 'close': do_close, 'find': do_find}
+FAULTS = (OSError, LookupError, sqlite3.Error, WrongSettings, plan.NotPlanned, sending.Stopped,
+          NoRange, ValueError)
+
+
+def main() -> int:
+    given = words()
+    signal.signal(signal.SIGTERM, lambda *_: sys.exit(FAILED))
+    try:
+        return VERBS[given.verb](given, settings_in(given.folder))
+    except KeyboardInterrupt:
+        print('\nstopped', file=sys.stderr)
+    except FAULTS as fault:
+        print(f'goo-migrate: {fault}', file=sys.stderr)
+    return FAILED
+
+
+if __name__ == '__main__':
+    sys.exit(main())

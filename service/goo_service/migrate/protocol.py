@@ -1,0 +1,98 @@
+"""The protocol of a migration for the auditor: what went in, what was sent, what came out; signed.
+
+protocol.json states hashes of the tables, the settings and the plan, the faults that were waived,
+the sums on both sides, and when it was written. protocol.sig is its Ed25519 signature by the key of
+the issuing body, in base64. Sums and protocol can be made again from the same files.
+"""
+import hashlib
+import json
+import time
+from pathlib import Path
+from typing import Any
+
+from goo_service.common.files import write_whole
+from goo_service.exchange.signature import Key
+from goo_service.exchange.signature import is_signed
+from goo_service.migrate import plan
+from goo_service.migrate import sending
+from goo_service.migrate import settings as settings_of
+from goo_service.migrate import tables
+from goo_service.migrate import work
+from goo_service.migrate.settings import Settings
+from goo_service.migrate.sums import Comparison
+
+NAME, SIGNATURE, STATED, HELD = 'protocol.json', 'protocol.sig', 'sums-tables', 'sums-registry'
+LISTS = (plan.NUMBERS, plan.CARRIED)
+
+
+def write_sums(folder: Path, comparison: Comparison) -> None:
+    """Both sides' sums, a file each, so that `diff` shows nothing where they are equal."""
+    write_whole(folder / STATED, comparison.stated.text())
+    write_whole(folder / HELD, comparison.held.text())
+
+
+def stated(folder: Path, settings: Settings, comparison: Comparison) -> dict[str, Any]:
+    """What the protocol states."""
+    current, count = sending.planned(folder)
+    with work.opened(folder) as database:
+        hashes = {table: work.noted(database, f'hash {table}') for table in settings_of.COLUMNS}
+        waived = database.execute('SELECT kind, count(*) FROM fault WHERE waived GROUP BY kind '
+                                  'ORDER BY kind').fetchall()
+        left = database.execute('SELECT source, count(*) FROM left_out GROUP BY source '
+                                'ORDER BY source').fetchall()
+        papers = database.execute('SELECT file, bytes, hash, holder, about FROM kept_document '
+                                  'ORDER BY file').fetchall()
+    return {
+        'old registry': {'code': settings.old_code, 'name': settings.old_name,
+                         'closed on': settings.closed_on},
+        'new registry': {'code': settings.new_code, 'date': settings.date},
+        'tables (SHA-256)': {table: found for table, found in hashes.items() if found},
+        'settings (SHA-256)': tables.hash_of(folder / settings_of.NAME),
+        'lists (SHA-256)': {name: tables.hash_of(folder / name) for name in LISTS},
+        'plan': {'SHA-256': current, 'requests': count, 'answered': sending.place(folder, current)},
+        'faults waived': dict(waived), 'rows left out': dict(left),
+        'carried energy': settings.choice,
+        'sums of the tables': sums(comparison.stated.text(), comparison.stated.total),
+        'sums of the registry': sums(comparison.held.text(), comparison.held.total),
+        'differences': comparison.count,
+        'documents': [{'file': file, 'bytes': size, 'SHA-256': found, 'holder': holder,
+                       'about': about} for file, size, found, holder, about in papers],
+        'written at': time.strftime('%Y-%m-%dT%H:%M:%SZ', time.gmtime()),
+    }
+
+
+def sums(text: str, certificates: int) -> dict[str, Any]:
+    return {'certificates': certificates, 'SHA-256': hashlib.sha256(text.encode()).hexdigest()}
+
+
+def write(folder: Path, settings: Settings, comparison: Comparison, key: Key) -> None:
+    """Writes the protocol and its signature."""
+    write_sums(folder, comparison)
+    text = json.dumps(stated(folder, settings, comparison), indent=2, ensure_ascii=False) + '\n'
+    write_whole(folder / NAME, text)
+    write_whole(folder / SIGNATURE, f'{key.signature(text).strip()} {key.public}\n')
+
+
+def faults(folder: Path, public: str | None) -> list[str]:
+    """What of a protocol does not hold: the signature, or a file that is another one now.
+
+    With `public` the key has to be that one, and not only the one that the signature names.
+    """
+    text = (folder / NAME).read_text(encoding='utf-8')
+    signature, _, signer = (folder / SIGNATURE).read_text(encoding='utf-8').strip().partition(' ')
+    if not is_signed(text, signature, public or signer):
+        return [f'{NAME} is not signed by {public or "the key that stands beside its signature"}']
+    return list(changed(folder, json.loads(text)))
+
+
+def changed(folder: Path, said: dict[str, Any]) -> list[str]:
+    """The files that are not those of which a protocol tells."""
+    wanted = {f'{tables.FOLDER}/{table}.csv': found
+              for table, found in said['tables (SHA-256)'].items()}
+    wanted |= {settings_of.NAME: said['settings (SHA-256)'], plan.NAME: said['plan']['SHA-256'],
+               STATED: said['sums of the tables']['SHA-256'],
+               HELD: said['sums of the registry']['SHA-256']}
+    wanted |= said['lists (SHA-256)']
+    wanted |= {f'documents/{of["file"]}': of['SHA-256'] for of in said['documents']}
+    return [f'{name} is not the file of which the protocol tells' for name, found in wanted.items()
+            if not (folder / name).is_file() or tables.hash_of(folder / name) != found]
