@@ -1,6 +1,6 @@
 // What the registry keeps for others to read: documents of cancellations, certificates, notices to other registries.
 
-import {h, table, facts, written, number, between, count, place, result, save, special, printButton, textButton} from './dom.js';
+import {busy, h, table, facts, written, number, between, count, place, result, save, special, printButton, textButton} from './dom.js';
 import {ask} from './forms.js';
 import {life} from './history.js';
 import {language, t} from './language.js';
@@ -15,10 +15,28 @@ const MANY = /^[0-9]{1,9}(-[0-9]{1,9}){0,2}(,[0-9]{1,9}(-[0-9]{1,9})?)*$/;
 async function wholePaper(numbers) {
   const {number, items, text, paper: of} = await asked('documents', {numbers, lang: language}), [first] = items;
   return [
-    h('div', {class: 'buttons'}, printButton({class: 'main'}), textButton(`cancellation-${number.replaceAll(',', '_').slice(0, 60)}`, text),
+    h('div', {class: 'buttons'}, printButton({class: 'main'}), pdfButton(number), textButton(`document-${number.replaceAll(',', '_').slice(0, 60)}`, text),
       h('a', {href: `#account/${first.account}`}, t`Back to the account`)),
     sheet(of),
   ];
+}
+
+/** Saves the document as the PDF that the registry has sealed, or says why there is none. */
+function pdfButton(number) {
+  const button = h('button', {type: 'button', onclick: () => busy(button, async () => {
+    const told = h('p', {class: 'quiet', 'aria-live': 'polite'}, t`The PDF is being made.`);
+    button.parentElement.parentElement.querySelectorAll('.pdf').forEach((e) => e.remove());
+    button.parentElement.after(h('div', {class: 'pdf'}, told));
+    const answer = await fetch(`/records/v1/documents?${new URLSearchParams({numbers: number, lang: language, format: 'pdf'})}`, {cache: 'no-store'}).catch(() => null);
+    if (answer?.ok) {
+      save(`document-${number.replaceAll(',', '_').slice(0, 60)}.pdf`, await answer.blob(), 'application/pdf');
+      told.parentElement.remove();
+      return;
+    }
+    const sentence = {400: t`It is too long for a PDF. Print the page.`, 501: t`This registry makes no PDF. Print the page.`}[answer?.status] ?? t`Others are being made, or no answer came. Try again in some seconds, or print the page.`;
+    told.parentElement.replaceChildren(result({good: false, title: t`No PDF`, sentence}));
+  })}, t`Save as PDF`);
+  return button;
 }
 
 /** The document of a cancellation. What it says is the registry's alone: of the page's address only digits are taken. */

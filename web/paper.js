@@ -1,7 +1,7 @@
 // The sheet of a document: what Article 19(7) of Directive (EU) 2018/2001 has a guarantee of origin say, lot by lot. What stands on it is the records' alone
 // (service/goo_service/records/paper.py): the page, the public check and the PDF lay out the same.
 
-import {h, table, facts, written, number} from './dom.js';
+import {h, facts, written, number} from './dom.js';
 import {language} from './language.js';
 import {LISTS} from './lists.js';
 
@@ -33,11 +33,19 @@ export const asList = (numbers) => [...numbers].sort((a, b) => a - b).reduce((sp
 export const lines = (...texts) => texts.filter(Boolean).map((text) => h('span', {class: 'line'}, text));
 
 /** A line of a document, with the numbers of certificates in groups. */
-const line = (text) => h('span', {class: 'line'}, text.split(/(\b\d{14}\b)/).map((part, i) => i % 2 ? number(part) : part && written(part)));
-const cell = (texts, kind) => texts.map(kind === 'range' ? line : (text) => h('span', {class: 'line'}, written(text)));
+const range = (text) => h('span', {class: 'line'}, text.split(/(\b\d{14}\b)/).map((part, i) => i % 2 ? number(part) : part && written(part)));
+const line = (text) => h('span', {class: 'line'}, written(text));
 
-/** A table of a document: its columns, and its rows of cells of lines. */
-const tableOf = ({caption, columns, rows}) => table(written(caption), columns.map(({name, kind}) => [name, kind, written(name)]), rows.map((row) => row.map((texts, at) => cell(texts, columns[at].kind))));
+/** A table of a document: its columns, and its rows of cells of lines. A column of ranges stands below its row, over the whole width. */
+function tableOf({caption, columns, rows}) {
+  const kept = columns.map((column, at) => ({...column, at})), beside = kept.filter(({kind}) => kind !== 'ranges'), below = kept.filter(({kind}) => kind === 'ranges');
+  const rowsOf = (row) => [
+    h('tr', {role: 'row', class: below.length ? 'lot' : null}, beside.map(({name, kind, at}) => h('td', {role: 'cell', 'data-name': name, class: kind}, row[at].length > 1 ? row[at].map(line) : row[at].map(written)))),
+    ...below.filter(({at}) => row[at].length).map(({name, kind, at}) => h('tr', {role: 'row', class: 'below'}, h('td', {role: 'cell', 'data-name': name, class: kind, colspan: beside.length}, row[at].map(range))))];
+  return h('table', {role: 'table'}, h('caption', {}, written(caption)),
+    h('thead', {role: 'rowgroup'}, h('tr', {role: 'row'}, beside.map(({name, kind}) => h('th', {role: 'columnheader', scope: 'col', class: kind}, written(name))))),
+    h('tbody', {role: 'rowgroup'}, rows.flatMap(rowsOf)));
+}
 
 const SIDE = 4;      // light modules around a QR code, as ISO/IEC 18004 has them
 

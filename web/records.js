@@ -5,7 +5,7 @@ import {t} from './language.js';
 import {Unread, last, pause} from './registry.js';
 import * as words from './words.js';
 
-export const records = {isThere: false, hasDirectory: false};
+export const records = {isThere: false, hasDirectory: false, hasAttachments: false};
 
 /** The address of a list; parameters without a value are left out. */
 export function pathOf(name, parameters = {}) {
@@ -18,7 +18,9 @@ export async function findRecords() {
   try {
     const answer = await fetch(pathOf('status'), {cache: 'no-store', signal: AbortSignal.timeout(20_000)});
     records.isThere = answer.ok;
-    records.hasDirectory = answer.ok && (await answer.json()).directory === true;
+    const said = answer.ok ? await answer.json() : {};
+    records.hasDirectory = said.directory === true;
+    records.hasAttachments = said.attachments === true;
   } catch { records.isThere = false; }
 }
 

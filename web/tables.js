@@ -40,7 +40,9 @@ const LISTS = {
   withdrawals: {title: t`Withdrawals`, filters: [], columns: [[t`Withdrawal`], [t`Day`], [t`Count`, 'right'], [t`Certificates`, 'range'], [t`Reason`, 'wide']], row: (of) => [of.number, act(of, of.day), count(of.count), range(of), written(of.reason)]},
   notices: {title: t`Notices`, filters: [ACCOUNT, {name: 'peer', label: t`Registry`}, {name: 'number', label: t`Notice`}], columns: [[t`Notice`], [t`Day`], [t`Way`], [t`Registry`], [t`Account`], [t`Account there`], [t`Count`, 'right'], [t`What became of it`, 'wide']],
     row: (of) => [of.number, act(of, of.day), of.sent ? t`sent` : t`received`, of.peer, of.account, of.far_account ?? '', count(of.count), fate(of)]},
-  directory: {title: t`Directory`, filters: [], ofDirectory: true, columns: [[t`Account`], [t`Holder code`], [t`Name`, 'wide']], row: (of) => [of.account, h('b', {}, of.holder), written(of.name)]},
+  attachments: {title: t`Documents of the old registry`, filters: [], isThere: () => records.hasAttachments, columns: [[t`Document`, 'wide'], [t`About`, 'wide'], [t`Holder code`], [t`Bytes`, 'right'], ['SHA-256', 'wide']],
+    row: (of) => [h('a', {href: `/records/v1/attachments/${of.number}`, download: of.file}, written(of.file)), written(of.about), of.holder, count(of.bytes), h('span', {class: 'code'}, of.sha256)]},
+  directory: {title: t`Directory`, filters: [], isThere: () => records.hasDirectory && !session.isIssuer, columns: [[t`Account`], [t`Holder code`], [t`Name`, 'wide']], row: (of) => [of.account, h('b', {}, of.holder), written(of.name)]},
   holders: {title: t`Holders`, filters: [{name: 'q', label: t`Name or code`}], ofIssuer: true, columns: [[t`Name`, 'wide', 'name'], [t`Holder code`, '', 'code'], [t`Accounts`, 'right'], ['', 'acts']], row: (of) => [written(of.name), of.code, count(of.accounts), h('a', {href: `#account//${new URLSearchParams({holder: of.code})}`}, t`accounts`)]},
 };
 
@@ -53,7 +55,7 @@ const statistics = () => listing({name: 'statistics', given: {by: 'month'}, filt
 /** The way between the lists, and the one that is open. */
 export function lists(name = 'devices', said) {
   const given = Object.fromEntries(new URLSearchParams(said ?? ''));
-  const own = Object.entries(LISTS).filter(([, {ofIssuer, ofDirectory}]) => ofDirectory ? records.hasDirectory && !session.isIssuer : session.isIssuer || !ofIssuer), titles = [...own.map(([of, {title}]) => [of, title]), ['entered', session.isIssuer ? t`Entered by the issuing body` : t`Entered by you`], ['statistics', t`Statistics`]];
+  const own = Object.entries(LISTS).filter(([, {ofIssuer, isThere}]) => isThere ? isThere() : session.isIssuer || !ofIssuer), titles = [...own.map(([of, {title}]) => [of, title]), ['entered', session.isIssuer ? t`Entered by the issuing body` : t`Entered by you`], ['statistics', t`Statistics`]];
   const open = titles.some(([of]) => of === name) ? name : 'devices';
   return [h('h1', {}, titles.find(([of]) => of === open)[1]),
     h('p', {class: 'known', role: 'navigation', 'aria-label': t`Lists`}, titles.map(([of, title]) => [h('a', {href: `#lists/${of}`, 'aria-current': of === open ? 'true' : null}, title), ' '])),

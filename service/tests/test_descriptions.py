@@ -28,6 +28,11 @@ THERE = {'account': '1', 'holder': 'SUN', 'count': '3', 'numbers': '1', 'number'
 """Parameters that an operation needs, of what is there."""
 TABLES = {'doubts': HEADER + b'k1,%b,2026-07-01,2026-07-31,5,0\n' % DEVICE.encode()}
 """What an operation is sent that takes a table."""
+PUBLIC = '''-----BEGIN PUBLIC KEY-----
+MCowBQYDK2VwAyEAGb9ECWmEzf6FQbrBZ9w7lshQhqowtrbLDFw4rXAxZuE=
+-----END PUBLIC KEY-----
+'''
+"""That of RFC 8410, section 10.1."""
 QUICK = settings(max_examples=40, derandomize=True, suppress_health_check=list(HealthCheck))
 
 
@@ -57,6 +62,8 @@ def fill(made: Made) -> None:
     made.send_bundle('SUN', [{'command': 'transfer', 'key': f'b{at}', 'giver': 1, 'taker': 2, **of}
                              for at, of in enumerate(spans)])
     made.must(ISSUER, 'advance', day='2026-08-01')
+    (made.folder / 'etc').mkdir()
+    (made.folder / 'etc/documents.pub').write_text(PUBLIC)
     old = Content('SUN', 'statement.pdf', 'of the registry before', b'%PDF-1.7')
     Attachments(made.folder / 'attachments').add([old], None)
 
@@ -120,7 +127,8 @@ def test_answers_are_as_they_are_described(made: Made, known: dict[str, list[str
     ask_anything()
 
 
-LISTS = [of for of in RECORDS.operations if 'format' in RECORDS.parameters(of, 'query')]
+LISTS = [of for of in RECORDS.operations if 'limit' in RECORDS.parameters(of, 'query')
+         or of.name == 'choose']
 
 
 @pytest.mark.parametrize('operation', LISTS, ids=[of.name for of in LISTS])

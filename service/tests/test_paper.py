@@ -88,16 +88,20 @@ def test_names_of_every_script_stand_as_they_are(made: Made, number: str, name: 
 
 def test_a_row_has_the_ranges_of_one_lot(made: Made) -> None:
     """3 to 4 and 5 to 9 are one range; January ends with 100, and the wind begins with 301."""
-    rows = paper(made, '1-5')['tables'][1]['rows']
-    start = '070000000'
-    assert [row[0] for row in rows] == [
-        [f'{start}00001', f'{start}00003 – {start}00009', f'{start}00095 – {start}00100'],
-        [f'{start}00101 – {start}00105'], [f'{start}00310 – {start}00319'], ['In all']]
-    assert [row[1] for row in rows] == [['1', '7', '6'], ['5'], ['10'], ['29']]
-    assert rows[2][2:] == [
-        ['2025-06-01', '2025-06-30'], ['Wieża Łódź', WIND, 'Poland PL'],
-        ['Wind, onshore T020001', 'Wind F01050100', 'electricity'],
-        ['2,500 kW', 'since 2020-01-01', 'no support'], ['2026-01-15', 'registry 07']]
+    of, start = paper(made, '1-5')['tables'][1], '070000000'
+    rows = [dict(zip((column['name'] for column in of['columns']), row, strict=True))
+            for row in of['rows']]
+    assert [row['Certificates'] for row in rows] == [
+        [f'{start}00001 (1)', f'{start}00003 – {start}00009 (7)',
+         f'{start}00095 – {start}00100 (6)'],
+        [f'{start}00101 – {start}00105 (5)'], [f'{start}00310 – {start}00319 (10)'], []]
+    assert [row['MWh'] for row in rows] == [['14'], ['5'], ['10'], ['29']]
+    assert rows[2] == {
+        'Plant': ['Wieża Łódź', WIND, 'Poland PL'], 'Produced': ['2025-06-01', '2025-06-30'],
+        'Technology and source': ['Wind, onshore T020001', 'Wind F01050100', 'electricity'],
+        'Installation': ['2,500 kW', 'since 2020-01-01', 'no support'],
+        'Issued': ['2026-01-15', 'registry 07'], 'MWh': ['10'],
+        'Certificates': rows[2]['Certificates']}
 
 
 def test_the_summary_adds_up_by_country_technology_and_month(made: Made) -> None:

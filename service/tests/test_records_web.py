@@ -24,7 +24,7 @@ NEEDED: dict[str, dict[str, object]] = {
 
 
 def path_of(route: str) -> str:
-    return '/verify' if route == 'verify' else f'/records/v1/{ROUTES.get(route, route)}'
+    return f'/{route}' if route.startswith('verify') else f'/records/v1/{ROUTES.get(route, route)}'
 
 
 @pytest.fixture

@@ -1,5 +1,6 @@
 """What goo-setup and restore plan, as values: installed by hand, three hosts, words, copies."""
 import argparse
+import io
 import os
 from collections.abc import Iterator
 from pathlib import Path
@@ -15,10 +16,13 @@ from goo_service.copies import new_log
 from goo_service.copies import restore
 from goo_service.copies.places import Place
 from goo_service.copies.places import write_place
+from goo_service.records.body import Body
+from goo_service.records.body import read_body
 from goo_service.setup import by_hand
 from goo_service.setup import choices
 from goo_service.setup import command
 from goo_service.setup import people
+from goo_service.setup import registry
 from goo_service.setup import running
 from goo_service.setup import three
 from goo_service.setup.choices import Beginning
@@ -325,3 +329,43 @@ def test_what_there_was_of_a_log_is_kept_also_where_it_was_cut_off(copies: Path)
     assert not (state / 'log').exists() and (kept / 'place').read_text() == 'old'
     (kept / 'done').touch()
     assert new_log.lost_folder(state) is None and new_log.archive_path() == b''
+
+
+# ------------------------------------------------------------------ the issuing body, its keys
+
+@pytest.fixture
+def etc(tmp_path: Path, monkeypatch: pytest.MonkeyPatch) -> Path:
+    """A folder in the place of /etc/goo."""
+    monkeypatch.setattr(registry, 'ETC', tmp_path)
+    return tmp_path
+
+
+def test_the_body_is_written_once_as_it_was_given(etc: Path) -> None:
+    given = Beginning(body_name='Umweltamt "Süd" 100 %', body_address='Straße 1, 12345 Łódź')
+    registry.place_body(given)
+    assert read_body(etc) == Body('Umweltamt "Süd" 100 %', 'Straße 1, 12345 Łódź')
+    registry.place_body(Beginning(body_name='Other'))
+    assert read_body(etc).name == 'Umweltamt "Süd" 100 %'
+
+
+def test_a_body_that_nobody_names_is_empty(etc: Path, monkeypatch: pytest.MonkeyPatch) -> None:
+    monkeypatch.setattr('sys.stdin', io.StringIO(''))
+    registry.place_body(Beginning())
+    assert read_body(etc) == Body()
+
+
+@pytest.mark.parametrize('name', ['a\nb', 'x' * 201, 'a\x1b[2J', ' a'])
+def test_a_name_that_is_no_line_is_refused(etc: Path, name: str) -> None:
+    with pytest.raises(Refused, match='cannot be used'):
+        registry.place_body(Beginning(body_name=name))
+    assert not (etc / 'body.conf').exists()
+
+
+@pytest.mark.parametrize(('earlier', 'is_kept'), [
+    ('ab' * 32, True), ('', False), ('ab' * 31, False), ('x' * 64, False), ('ab' * 200, False)])
+def test_codes_of_before_keep_their_key(monkeypatch: pytest.MonkeyPatch, earlier: str,
+                                        is_kept: bool) -> None:
+    """What a user of the service may have put there is no key of ours."""
+    monkeypatch.setattr(registry, 'read_as', lambda user, path: f'{earlier}\n')
+    made = registry.key_of_codes()
+    assert (made == f'{earlier}\n') == is_kept and len(made) >= 65

@@ -14,6 +14,7 @@ OPTIONAL = ('carried', 'documents')
 MOST_BYTES = 8 << 30                # of a table
 MOST_ROWS = 20_000_000
 MOST_FIELD = 4096                   # characters
+LONGEST = 1 << 17                   # characters of a field that is read to its end at all
 BLOCK = 1 << 20
 
 
@@ -58,6 +59,7 @@ def hash_of(path: Path) -> str:
 def rows_in(folder: Path, table: str, settings: Settings) -> Iterator[Row | Fault]:
     """The rows of a table, each or its fault. Refused where it can't be read on."""
     path, number = path_of(folder, table), 0
+    csv.field_size_limit(LONGEST)
     try:
         if path.stat().st_size > MOST_BYTES:
             raise Refused(Fault('size', table, 0, 'file', f'it has more than {MOST_BYTES} bytes'))

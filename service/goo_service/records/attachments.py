@@ -54,6 +54,9 @@ class Attachments:
     def __init__(self, folder: Path) -> None:
         self.folder = folder
 
+    def is_there(self) -> bool:
+        return (self.folder / LIST).exists()
+
     def read(self) -> list[Attachment]:
         """All attachments, by their numbers. OSError where the list can't be read."""
         try:

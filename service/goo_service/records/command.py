@@ -3,6 +3,7 @@
 usage: goo-records follow (--begun CODE DAY SERIAL | --copy COPY [--after N])
                           [--archive FOLDER] [--into FOLDER] [--socket PATH] [--once]
        goo-records check [--copies FOLDER] [--archive FOLDER] [--into FOLDER]
+       goo-records verify-document FILE .. [--public-key FILE]
 
 `follow` carries out every entry of the archive from the first one on, and then those that come. It
 begins with an empty registry of this code, date and next serial (what `goo init` was given), or
@@ -15,7 +16,13 @@ is told with what to do, and no book is made of it.
 
 `check` compares the book with the newest copy of the registry (the nightly one), which is another
 reading of the same log: the sums and the statement of each account, the audit and the cancellation
-documents, both at the copy's entry. The exit status is 0 where all is the same, 1 where something
+documents, both at the copy's entry.
+
+`verify-document` tells of each PDF whether it is as the registry sealed it, with its number and its
+check code. Whether the registry still has it, /verify.html tells. The key is that of this registry,
+or one that another one shows at /verify/key.
+
+The exit status is 0 where all is the same, 1 where something
 is not, 2 for a usage error, 3 where something can't be read.
 """
 import argparse
@@ -30,6 +37,8 @@ from goo_service.records.check import check
 from goo_service.records.follow import Locked
 from goo_service.records.follow import follow
 from goo_service.records.schema import Mismatch
+from goo_service.records.verify_document import PUBLIC
+from goo_service.records.verify_document import verify_documents
 
 ARCHIVE, FOLDER = '/var/lib/goo-replica/archive', '/var/lib/goo-records'
 SOCKET, COPIES = '/run/goo/door.sock', '/var/backups/goo'
@@ -53,6 +62,12 @@ def words() -> argparse.ArgumentParser:
     following.add_argument('--once', action='store_true')
     following.add_argument('--socket', default=SOCKET, metavar='PATH')
     checking.add_argument('--copies', default=COPIES, metavar='FOLDER')
+    verifying = commands.add_parser('verify-document')
+    verifying.add_argument('file', nargs='+', metavar='FILE')
+    verifying.add_argument('--public-key', default=PUBLIC, metavar='FILE')
+    verifying.set_defaults(work=verify_documents)
+    following.set_defaults(work=follow)
+    checking.set_defaults(work=check)
     for word in (following, checking):
         word.add_argument('--archive', default=ARCHIVE, metavar='FOLDER')
         word.add_argument('--into', default=FOLDER, metavar='FOLDER')
@@ -63,7 +78,7 @@ def main() -> int:
     given = words().parse_args()
     signal.signal(signal.SIGTERM, lambda *_: sys.exit(0))
     try:
-        return follow(given) if given.word == 'follow' else check(given)
+        return int(given.work(given))
     except Mismatch as fault:
         fail(f'{fault}. {AGAIN}' if given.word == 'follow' else fault)
     except (entries.Broken, Locked, OSError, ValueError, sqlite3.Error) as fault:

@@ -14,12 +14,15 @@ from goo_service.records.numbers import number_of_document
 from goo_service.records.numbers import read_numbers
 from goo_service.records.paper import Writer
 from goo_service.records.paper import language_of
+from goo_service.records.questions import BadQuestion
 from goo_service.records.questions import Given
 from goo_service.records.questions import NotFound
 from goo_service.records.questions import Row
 from goo_service.records.questions import Viewer
 from goo_service.records.questions import rows_of
 from goo_service.records.schema import CANCELLATION
+from goo_service.records.seal import SHA256
+from goo_service.records.seal import Seal
 
 CODE_LENGTH = 16
 """Letters and digits of a check code: 80 bits."""
@@ -32,6 +35,8 @@ class Maker:
 
     keys: tuple[bytes, ...]
     writer: Callable[[str], Writer]
+    public: str = ''
+    """The public key of seals, where there is one."""
 
 
 def document(database: sqlite3.Connection, number: int) -> Row:
@@ -107,8 +112,9 @@ def shown_document(database: sqlite3.Connection, viewer: Viewer, number: int, ke
 
 
 def verified(database: sqlite3.Connection, given: Given, maker: Maker) -> Row | None:
-    """What a document says whose number and code belong together; None where they do not. Nobody
-    has to sign in for this."""
+    """What a document says whose number and code belong together; None where they do not, or where
+    a seal is given that is not ours. Nobody has to sign in for this."""
+    seal = seal_of(given)
     try:
         numbers = cancellations_of(database, numbers_of(given, 'number'))
         found = [document(database, number) for number in numbers]
@@ -117,7 +123,20 @@ def verified(database: sqlite3.Connection, given: Given, maker: Maker) -> Row | 
     text = ''.join(map(document_text, found))
     if not any([is_code(text, key, given.get('code', '')) for key in maker.keys]):
         return None
-    return whole(database, found, given, maker)
+    if seal and not (maker.public and seal.is_of(maker.public)):
+        return None
+    return {'sealed': bool(seal), **whole(database, found, given, maker)}
+
+
+def seal_of(given: Given) -> Seal | None:
+    """The seal that is given with a number and a code; None where there is none."""
+    digest, signature = given.get('sha256'), given.get('seal')
+    if not digest and not signature:
+        return None
+    if not digest or not signature or not SHA256.fullmatch(digest) or len(signature) > 100:
+        raise BadQuestion('sha256 and seal belong together: 64 hexadecimal digits, and a signature '
+                          'in base64')
+    return Seal(given.get('number', ''), given.get('code', ''), digest, signature)
 
 
 def numbers_of(given: Given, name: str) -> DocumentNumber | list[int]:

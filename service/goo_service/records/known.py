@@ -2,7 +2,8 @@
 
 An answer is a function of the question, of who asks, and of the entry by which the book stands; of
 notices also of what the exchange wrote. So the tag is made of these, and no list is read for it. A
-document depends on what the issuing body says of itself too, and has no tag.
+document depends on what the issuing body says of itself too, and attachments come by another way:
+these have no tag.
 """
 import hashlib
 import os
@@ -14,14 +15,15 @@ from flask import request
 
 from goo_service.records.schema import FORM
 
-DOCUMENTS = ('documents', 'cancellations/NUMBER', 'verify')
+UNTAGGED = ('documents', 'cancellations/NUMBER', 'verify', 'attachments', 'attachments/NUMBER',
+            'status')
 MADE = Path(__file__).stat().st_mtime_ns, os.environ.get('GOO_RECORDS_DIRECTORY')
 """Another version of this service, or another configuration, may answer otherwise."""
 
 
 def tag_of(name: str, database: sqlite3.Connection, exchange: Path) -> str:
     """The tag of the answer to this request of a route; no text where it has none."""
-    if request.method != 'GET' or name in DOCUMENTS:
+    if request.method != 'GET' or name in UNTAGGED:
         return ''
     entry, digest = database.execute('SELECT entry, hash FROM meta').fetchone()
     try:

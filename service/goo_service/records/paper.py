@@ -1,7 +1,8 @@
 """What stands on a document: the one source of the page, of paper and of the PDF.
 
 It is data, with the texts in the reader's language: a title, a claim, facts, tables, the check code
-and a foot. web/paper.js and records/pdf_page.py lay it out, and add no text of their own.
+and a foot. A column of ranges stands below its row, over its whole width. web/paper.js and
+records/pdf_page.py lay it out, and add no text of their own.
 """
 import itertools
 from collections.abc import Iterable
@@ -154,31 +155,30 @@ class Writer:
                           [*rows, [[self.words('In all')], [], [], [count(total)]]])
 
     def certificates(self, lots: Sequence['Lot'], total: int) -> Row:
-        """A row for each lot, with its ranges."""
-        rows = [self.row(lot) for lot in lots]
-        end: list[list[str]] = [[self.words('In all')], [self.words.count(total)]]
-        end += [[] for _ in CERTIFICATES[2:]]
-        return self.table('Certificates cancelled', CERTIFICATES, [*rows, end])
+        """A row for each lot, with its ranges below it."""
+        end: list[list[str]] = [[] for _ in CERTIFICATES]
+        end[0], end[-2] = [self.words('In all')], [self.words.count(total)]
+        return self.table('Certificates cancelled', CERTIFICATES, [*map(self.row, lots), end])
 
     def row(self, lot: 'Lot') -> list[list[str]]:
         words, of = self.words, lot.of
-        return [[span(f'{first:014}', f'{last:014}') for first, last in lot.ranges],
-                [words.count(last - first + 1) for first, last in lot.ranges],
-                [of['first_day'], of['last_day']],
-                [of['site'], of['device'], self.coded('country', of['country'])],
+        return [[of['site'], of['device'], self.coded('country', of['country'])],
                 [self.coded('tech', of['tech']), self.coded('source', of['source']),
                  words(of['carrier'])],
+                [of['first_day'], of['last_day']],
                 [power(of['capacity_w'], words), words('since {}', of['commissioned']),
                  words(SUPPORT[of['support']])],
-                [of['issued_on'], self.registry(of['origin'])]]
+                [of['issued_on'], self.registry(of['origin'])], [words.count(lot.count)],
+                [f'{span(f"{first:014}", f"{last:014}")} ({words.count(last - first + 1)})'
+                 for first, last in lot.ranges]]
 
 
-USES = (('Cancellation', ''), ('Day', ''), ('Beneficiary', 'wide'), ('Period of use', 'wide'),
+USES = (('Cancellation', ''), ('Day', 'days'), ('Beneficiary', 'wide'), ('Period of use', 'wide'),
         ('Count', 'right'))
-SUMMARY = (('Country', 'wide'), ('Technology', 'wide'), ('Month', ''), ('MWh', 'right'))
-CERTIFICATES = (('Certificates', 'range'), ('Count', 'right'), ('Produced', 'wide'),
-                ('Plant', 'wide'), ('Technology and source', 'wide'), ('Installation', 'wide'),
-                ('Issued', 'wide'))
+SUMMARY = (('Country', 'wide'), ('Technology', 'wide'), ('Month', 'days'), ('MWh', 'right'))
+CERTIFICATES = (('Plant', 'wide'), ('Technology and source', 'wide'), ('Produced', 'days'),
+                ('Installation', 'wide'), ('Issued', 'wide'), ('MWh', 'right'),
+                ('Certificates', 'ranges'))
 
 
 # -------------------------------------------------------------------- parts

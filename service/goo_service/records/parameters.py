@@ -36,13 +36,16 @@ PARAMETERS: dict[str, tuple[str, ...]] = {
     'certificates/NUMBER': (),
     'cancellations/NUMBER': (),
     'attachments/NUMBER': (),
-    'documents': ('numbers', 'lang'),
+    'documents': ('numbers', 'lang', 'format'),
     'doubts': (),
     'status': (),
     'openapi.yaml': (),
-    'verify': ('number', 'code', 'lang'),
+    'verify': ('number', 'code', 'lang', 'sha256', 'seal'),
+    'verify/key': (),
 }
 FORMATS = (*FILES, 'json')
+FORMATS_OF = {'documents': ('pdf', 'json')}
+"""Formats of a route that is no list."""
 
 
 def page_parameter(route: str) -> str:
@@ -67,6 +70,7 @@ def parameters_of(route: str, given: Query) -> dict[str, str]:
         if len(values) > 1:
             raise BadQuestion(f'{name} is given {len(values)} times')
         found[name] = values[0]
-    if found.get('format', '') not in ('', *FORMATS):
-        raise BadQuestion(f'format is {found["format"]!r}, and not one of {", ".join(FORMATS)}')
+    formats = FORMATS_OF.get(route, FORMATS)
+    if found.get('format', '') not in ('', *formats):
+        raise BadQuestion(f'format is {found["format"]!r}, and not one of {", ".join(formats)}')
     return found

@@ -31,6 +31,7 @@ from flask import request
 
 from goo_service.common.rules import ISSUER
 from goo_service.common.rules import PLACES
+from goo_service.exchange.signature import Key
 from goo_service.log.bounds import BODY
 from goo_service.records import acts
 from goo_service.records import certificates
@@ -50,6 +51,9 @@ from goo_service.records.paper import Writer
 from goo_service.records.parameters import parameters_of
 from goo_service.records.parties import Parties
 from goo_service.records.parties import TooMany
+from goo_service.records.pdf import NotInstalled
+from goo_service.records.pdf import NotRendered
+from goo_service.records.pdf import pdfs
 from goo_service.records.questions import BadQuestion
 from goo_service.records.questions import FILES
 from goo_service.records.questions import Given
@@ -62,6 +66,8 @@ from goo_service.records.questions import is_set
 from goo_service.records.questions import standing
 from goo_service.records.schema import Mismatch
 from goo_service.records.schema import read_moment
+from goo_service.records.seal import read_public
+from goo_service.records.seal import sealed
 from goo_service.records.sheets import xlsx_of
 
 FOLDER = Path('/var/lib/goo-records')
@@ -79,7 +85,7 @@ BUSY = {'Retry-After': '10'}
 KEY = 64
 """Bytes of the key of check codes."""
 STATUSES: dict[type[Exception], int] = {
-    BadQuestion: 400, NotFound: 404, TooFew: 409, TooMany: 429}
+    BadQuestion: 400, NotFound: 404, TooFew: 409, TooMany: 429, NotInstalled: 501}
 DIRECTORY = {'shown': True, 'hidden': False}
 """What GOO_RECORDS_DIRECTORY says: whether holders see whose accounts there are."""
 FateKey = tuple[int, int, int]
@@ -110,7 +116,7 @@ class Busy(Exception):
 
 
 FAULTS: tuple[type[Exception], ...] = (
-    TooLong, Busy, OSError, sqlite3.DatabaseError, *STATUSES)
+    TooLong, Busy, NotRendered, OSError, sqlite3.DatabaseError, *STATUSES)
 """What an answer can come to instead."""
 
 
@@ -135,7 +141,7 @@ class Timed(sqlite3.Connection):
 
 ListOf = Callable[[sqlite3.Connection, Viewer, Given], Listed]
 OneOf = Callable[[sqlite3.Connection, Viewer, int], 'Answer']
-OtherOf = Callable[[sqlite3.Connection, Viewer, Given], Row]
+OtherOf = Callable[[sqlite3.Connection, Viewer, Given], Row | Response]
 PostedOf = Callable[[sqlite3.Connection, Viewer, Given, bytes], Row]
 Answer = Response | Listed | Row
 
@@ -176,6 +182,7 @@ class Service:
         self.parties = Parties(exchange, shows_directory)
         self.kept = Attachments(attachments)
         self.files = threading.BoundedSemaphore(limits.files)
+        self.papers = threading.BoundedSemaphore(1)
         self.waiting = feed.Waiting(limits.waiting)
         self.lists: dict[str, ListOf] = {
             'acts': acts_of, 'holdings': certificates.holdings,
@@ -200,7 +207,9 @@ class Service:
                  if path.exists()]
         if not paths:
             raise OSError(f'{self.folder}/code.key is not there')
-        return documents.Maker(tuple(map(read_key, paths)), self.writer)
+        public = self.etc / 'documents.pub'
+        return documents.Maker(tuple(map(read_key, paths)), self.writer,
+                               public_in(public) if public.exists() else '')
 
     def writer(self, language: str) -> Writer:
         """Who writes documents, by what the issuing body says of itself at the moment."""
@@ -229,7 +238,7 @@ class Service:
         """The answer of a route, or the error that it came to. Its book is closed once it is
         sent."""
         kind = request.args.get('format') or ''
-        seconds = self.limits.file if kind in FILES else self.limits.question
+        seconds = self.limits.file if kind in (*FILES, 'pdf') else self.limits.question
         try:
             given = parameters_of(name, request.args)
             database = self.book(time.monotonic() + seconds)
@@ -260,6 +269,8 @@ class Service:
         if isinstance(error, Busy):
             text = 'other files are being written: ask again in some seconds'
             return reply(503, {'error': text}, **BUSY)
+        if isinstance(error, NotRendered):
+            return reply(503, {'error': str(error)}, **BUSY)
         if is_late:
             text = (f'the answer takes longer than {seconds:g} s: ask for less, for example for '
                     'one account, one kind of act or some days')
@@ -365,12 +376,34 @@ class Service:
     def cancellation(self, database: sqlite3.Connection, viewer: Viewer, number: int) -> Row:
         return documents.shown_document(database, viewer, number, self.maker.keys[0])
 
-    def documents(self, database: sqlite3.Connection, viewer: Viewer, given: Given) -> Row:
-        return documents.shown_documents(database, viewer, given, self.maker)
+    def documents(self, database: sqlite3.Connection, viewer: Viewer,
+                  given: Given) -> Row | Response:
+        """A document, as data or as a PDF. While a PDF is rendered, the book is not read."""
+        made = documents.shown_documents(database, viewer, given, self.maker)
+        if given.get('format') != 'pdf':
+            return made
+        database.close()
+        return self.pdf(made['paper'])
+
+    def pdf(self, paper: Row) -> Response:
+        """A document as a PDF with its seal. Each process renders one at a time, as one of its few
+        files."""
+        key = key_of_seals(self.etc)
+        if not self.papers.acquire(blocking=False):
+            raise Busy
+        try:
+            made, = self.one_of_few(pdfs([paper]))
+        finally:
+            self.papers.release()
+        name = f'document-{paper["number"].replace(",", "_")[:60]}.pdf'
+        fields = {**HEADERS, 'Content-Disposition': f'attachment; filename="{name}"'}
+        return Response(sealed(made, paper['number'], paper['code'], key), 200, fields,
+                        content_type='application/pdf')
 
     def status(self, _: sqlite3.Connection, viewer: Viewer, __: Given) -> Row:
         """Who looks, and whether he sees the directory."""
-        return {'caller': viewer.caller, 'directory': self.parties.is_shown or viewer.sees_all}
+        return {'caller': viewer.caller, 'directory': self.parties.is_shown or viewer.sees_all,
+                'attachments': self.kept.is_there()}
 
     def party(self, database: sqlite3.Connection, viewer: Viewer, given: Given) -> Row:
         user = request.headers.get('GOO-User') or viewer.caller
@@ -391,11 +424,43 @@ class Service:
         def answer(database: sqlite3.Connection, given: Given) -> Response:
             found = documents.verified(database, given, self.maker)
             if found is None:
-                text = 'number and code do not belong together'
+                text = ('this file is not as the registry sealed it' if given.get('seal') else
+                        'number and code do not belong together')
                 return reply(404, {'valid': False, 'error': text})
             return reply(200, {'valid': True, **found})
 
         return self.for_anybody('verify', answer)
+
+    def public_key(self) -> Response:
+        """The key by which anybody sees that a PDF is as the registry sealed it."""
+        try:
+            parameters_of('verify/key', request.args)
+        except BadQuestion as error:
+            return reply(400, {'error': str(error)})
+        path = self.etc / 'documents.pub'
+        if not path.exists():
+            return reply(404, {'error': 'this registry has no key of documents'})
+        return Response(path.read_bytes(), 200, HEADERS, content_type='application/x-pem-file')
+
+
+def key_of_seals(etc: Path) -> Key:
+    """The key that seals documents."""
+    path = etc / 'documents.key'
+    if not path.exists():
+        raise NotInstalled('this host makes no PDF: it has no key that seals documents, which '
+                           'goo-setup makes')
+    try:
+        return Key(path)
+    except ValueError as fault:
+        raise OSError(str(fault)) from fault
+
+
+def public_in(path: Path) -> str:
+    """The public key of seals."""
+    try:
+        return read_public(path)
+    except ValueError as fault:
+        raise OSError(f'{path} has no public key') from fault
 
 
 def says_nothing(response: Response) -> bool:
@@ -485,6 +550,7 @@ def application(folder: Path | None = None, exchange: Path | None = None,
 
     app.get('/records/v1/openapi.yaml')(description)
     app.get('/verify')(service.verified)
+    app.get('/verify/key')(service.public_key)
     app.register_error_handler(404, missing)
     app.register_error_handler(405, not_allowed)
     return app

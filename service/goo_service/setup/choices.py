@@ -49,6 +49,8 @@ class Beginning:
     name: str | None = None
     date: str | None = None
     next_serial: str | None = None
+    body_name: str | None = None
+    body_address: str | None = None
     certificate: str | None = None
     key: str | None = None
     user: str | None = None

@@ -2,7 +2,8 @@
 
 usage: goo-setup [--code C] [--name HOST] [--date DAY] [--next-serial N]
                  [--certificate FILE --key FILE | --self-signed] [--user NAME]
-                 [--password-file FILE] [--directory shown|hidden]
+                 [--password-file FILE] [--body-name NAME] [--body-address ADDRESS]
+                 [--directory shown|hidden]
                  [--alone | --hosts ADDRESS,ADDRESS,ADDRESS [--balancer ADDRESS] | --join FILE]
        goo-setup user add NAME CALLER [ROLE] [--password-file FILE]
                  | remove NAME | password NAME [--password-file FILE]
@@ -10,12 +11,12 @@ usage: goo-setup [--code C] [--name HOST] [--date DAY] [--next-serial N]
        goo-setup status | doctor | renew | upgraded
 
 Without words it asks what is not given: the host's name, the certificate, the first user of the
-issuing body and a password, the registry's code and date, one host or three, whether holders
-see whose accounts there are. It makes the secrets, writes the configuration below /etc/goo,
-begins the registry and its log of requests, starts the units, and prints the address. What is
-there already stays as it is. So it can be run again after an interruption. A registry that was
-installed by hand goes on under the package: its units and programs go aside, to
-/var/backups/goo-by-hand.
+issuing body and a password, the registry's code and date, the issuing body's name and address for
+its documents, one host or three, whether holders see whose accounts there are. It makes the
+secrets, writes the configuration below /etc/goo, begins the registry and its log of requests,
+starts the units, and prints the address. What is there already stays as it is. So it can be run
+again after an interruption. A registry that was installed by hand goes on under the package: its
+units and programs go aside, to /var/backups/goo-by-hand.
 
 --hosts makes this host the first of three with one log over etcd: the addresses of all three,
 this one's first. It writes a file for each of the others, with which that host joins by --join.
@@ -63,6 +64,8 @@ OPTIONS = {
     'next-serial': ('N', 'the number of the first certificate; 1'),
     'certificate': ('FILE', 'the chain of certificates for TLS'),
     'key': ('FILE', 'its key'),
+    'body-name': ('NAME', "the issuing body's name, as its documents have it"),
+    'body-address': ('ADDRESS', 'its address, on one line'),
     'user': ('NAME', 'the first user, somebody of the issuing body'),
     'password-file': ('FILE', 'a password, on its first line'),
     'directory': ('WORD', 'whether holders see whose accounts there are: shown, or hidden'),
@@ -87,6 +90,7 @@ def begin(given: Beginning) -> int:
     is_new, hosts = registry.place_registry(given), given.hosts
     if is_new and not given.alone and not hosts:
         hosts = answer_or_default(HOSTS_ASKED, '', are_hosts)
+    registry.place_body(given)
     registry.place_exchange()
     changed |= running.place_nginx()
     if not words_of_log():

@@ -281,14 +281,17 @@ def of_certificates() -> Iterator[Finding]:
                       f'{ETC}/host.conf has the name that it has to be for')
 
 
+KEYS = ('tls/key.pem', 'exchange.key', 'replica.key')
+
+
 def of_keys() -> Iterator[Finding]:
-    for name in ('tls/key.pem', 'exchange.key', 'replica.key'):
-        path = ETC / name
+    for path in (ETC / name for name in KEYS):
         if not path.exists():
             yield Finding(f'{path} is not there', Row.KEY,
                           'put the kept one there; a new one is made by goo-setup, and then the '
                           'log or the peers do not know it')
-        elif path.stat().st_mode & 0o077:
+    for path in (ETC / name for name in (*KEYS, 'code.key', 'documents.key')):
+        if path.exists() and path.stat().st_mode & 0o077:
             yield Finding(f'{path} can be read by others than its owner', Row.KEY,
                           f'chmod 400 {path}')
 

@@ -10,6 +10,9 @@ from collections.abc import Callable
 from dataclasses import dataclass
 
 from goo_service.records import settings
+from goo_service.records.body import Body
+from goo_service.records.body import is_address as is_body_address
+from goo_service.records.body import is_name as is_body_name
 from goo_service.setup import choices
 from goo_service.setup import people
 from goo_service.setup.choices import Beginning
@@ -25,6 +28,7 @@ from goo_service.setup.common import code_of_registry
 from goo_service.setup.common import goo
 from goo_service.setup.common import holds_registry
 from goo_service.setup.common import make_folder
+from goo_service.setup.common import read_as
 from goo_service.setup.common import report
 from goo_service.setup.common import run
 from goo_service.setup.common import text_of
@@ -39,6 +43,9 @@ DIRECTORY_ASKED = 'whether holders see whose accounts there are, by code and nam
 NAME_ASKED = "the host's name, as it stands in the certificate"
 USER_ASKED = 'the first user, somebody of the issuing body'
 CODE_ASKED = "the registry's code, 1 to 99, that no other registry has"
+BODY_ASKED = "the issuing body's name, as its documents have it; empty: the registry's code alone"
+BODY_ADDRESS_ASKED = "the issuing body's address, on one line"
+KEY_OF_CODES = re.compile('[0-9a-f]{64,256}')
 CHAIN_ASKED = "the certificate's file; empty: one that this host signs itself, for a trial"
 SIGN = ('openssl', 'req', '-x509', '-newkey', 'ec', '-pkeyopt', 'ec_paramgen_curve:P-256', '-nodes',
         '-days', '365')
@@ -63,10 +70,41 @@ def place_secret(name: str, owner: str, make: Callable[[], str]) -> None:
 
 
 def place_secrets() -> None:
-    """The keys that sign what the exchange publishes and the entries of the log."""
+    """The keys that sign what the exchange publishes, the entries of the log, and documents."""
     place_secret('exchange.key', 'goo-agent',
                  lambda: run('openssl', 'genpkey', '-algorithm', 'ED25519'))
     place_secret('replica.key', 'goo-replica', lambda: f'{secrets.token_hex(32)}\n')
+    place_secret('code.key', 'goo-records', key_of_codes)
+    place_secret('documents.key', 'goo-records',
+                 lambda: run('openssl', 'genpkey', '-algorithm', 'ED25519'))
+    public = run('openssl', 'pkey', '-in', ETC / 'documents.key', '-pubout')
+    if text_of(ETC / 'documents.pub') != public:
+        write(ETC / 'documents.pub', public)
+
+
+def key_of_codes() -> str:
+    """The key of check codes: the one that the records have made on this host, so that documents
+    of before have the codes that they had, or a new one. Hosts that join have it from the first."""
+    earlier = read_as('goo-records', BOOK / 'code.key').strip()
+    return f'{earlier if KEY_OF_CODES.fullmatch(earlier) else secrets.token_hex(32)}\n'
+
+
+def place_body(given: Beginning) -> None:
+    """The issuing body's name and address, as its documents have them."""
+    path = ETC / 'body.conf'
+    is_new = not path.exists()
+    if is_new:
+        name = asked_or_given(given.body_name, BODY_ASKED, is_body_name)
+        address = asked_or_given(given.body_address, BODY_ADDRESS_ASKED, is_body_address)
+        write(path, Body(name, address).text())
+    report(path, is_new)
+
+
+def asked_or_given(given: str | None, what: str, is_usable: Callable[[str], object]) -> str:
+    """What was given as an option, or is typed; empty where nobody answers."""
+    if given is None:
+        return answer_or_default(what, '', is_usable)
+    return answer(given, what, is_usable)
 
 
 @dataclass(frozen=True)

@@ -1,6 +1,7 @@
 """Documents of cancellations: on the screen, on paper, and checked by a stranger."""
 import re
 import subprocess
+from collections.abc import Iterator
 from dataclasses import dataclass
 from pathlib import Path
 
@@ -22,6 +23,18 @@ class Document:
     number: str
     code: str
     count: int
+
+
+@pytest.fixture(scope='module')
+def house() -> Iterator[House]:
+    """A house with keys that seal documents."""
+    with House() as standing:
+        key, public = (standing.folder / 'etc' / f'documents.{end}' for end in ('key', 'pub'))
+        subprocess.run(['openssl', 'genpkey', '-algorithm', 'ed25519', '-out', key], check=True,
+                       capture_output=True)
+        subprocess.run(['openssl', 'pkey', '-in', key, '-pubout', '-out', public], check=True,
+                       capture_output=True)
+        yield standing
 
 
 @pytest.fixture(scope='module')
@@ -118,3 +131,45 @@ def test_a_stranger_types_a_number_and_a_code(house: House, visit: Visit,
     page.fill('verify', number='forty-two')
     page.click('form.verify button.main')
     assert page.text('.result.bad', 'Not readable')
+
+
+def test_a_sealed_pdf_is_saved_and_checked_by_a_stranger(house: House, visit: Visit,
+                                                         document: Document) -> None:
+    page = visit(house, 'anna', f'document/{document.number}', 'article.sheet')
+    page.click('main .buttons button', 'Save as PDF')
+    path = page.downloads / f'document-{document.number}.pdf'
+    page.wait(path.exists)
+    text = subprocess.run(['pdftotext', '-raw', path, '-'], check=True, capture_output=True,
+                          text=True).stdout
+    assert document.code in text and NAME in text.replace('\n', ' ')
+    data = path.read_bytes()
+    stranger = visit(house, '')
+    for name, sent, kind, told in (
+            ('good.pdf', data, 'good', 'as the registry sealed it'),
+            ('changed.pdf', data.replace(b'%PDF-1', b'%PDF-2'), 'bad', 'Not as it was sealed'),
+            ('other.pdf', b'%PDF-1.7\n', 'bad', 'No sealed PDF')):
+        stranger.load_path('/verify.html')
+        chosen = path.parent / name
+        chosen.write_bytes(sent)
+        stranger.see('#file').send_keys(str(chosen))
+        assert told in stranger.text(f'.result.{kind}')
+    stranger.load_path('/verify.html')
+    stranger.look('verify-file')
+
+
+def test_a_stranger_at_the_front_page_finds_the_check(house: House, visit: Visit) -> None:
+    """What a browser shows once its question for a password is left: the answer to the page."""
+    answer = house.ask(None, 'GET', '/', Accept='text/html,*/*;q=0.8')
+    assert answer.status == 401 and answer.fields['www-authenticate'].startswith('Basic ')
+    assert answer.fields['content-type'].startswith('text/html')
+    assert 'stranger.js' in answer.text
+    program = house.ask(None, 'GET', '/', Accept='*/*')
+    assert program.status == 401 and 'signed in' in program.json['error']
+    page = visit(house, '')
+    page.load_path('/stranger.html')
+    page.look('stranger')
+    page.click('main a.button', 'Check a cancellation document')
+    assert page.see('h1', 'Check a cancellation document')
+    page.run("localStorage.setItem('goo/language', 'de')")
+    page.load_path('/stranger.html')
+    assert page.see('main a.button', 'Einen Entwertungsnachweis prüfen')

@@ -9,7 +9,7 @@ import {records} from '../web/records.js';
 const ONE = {language: 'en', number: '07-3-2', code: 'ABCD-EFGH-IJKL-MNOP', house: 'Registry of guarantees of origin 07', title: 'Document of cancellation 07-3-2',
   claim: ['15 MWh', ' of energy, used from 2025-02-01 to 2025-02-28 by ', 'Rathaus Beispielstadt'], facts: [{name: 'Issuing body', lines: ['Umweltamt', 'Hauptstraße 1', 'registry 07']}, {name: 'Beneficiary', lines: ['Rathaus Beispielstadt']}],
   notes: [], tables: [{caption: 'By month', columns: [{name: 'Month', kind: ''}, {name: 'MWh', kind: 'right'}], rows: [[['2025-01'], ['15']]]},
-    {caption: 'Certificates cancelled', columns: [{name: 'Certificates', kind: 'range'}, {name: 'Plant', kind: 'wide'}], rows: [[['07000000000001 – 07000000000010', '07000000000012'], ['North field', 'Germany DE']]]}],
+    {caption: 'Certificates cancelled', columns: [{name: 'Plant', kind: 'wide'}, {name: 'Certificates', kind: 'ranges'}], rows: [[['North field', 'Germany DE'], ['07000000000001 – 07000000000010 (10)', '07000000000012 (1)']], [['In all'], []]]}],
   check: {name: 'Check code', code: 'ABCD-EFGH-IJKL-MNOP', text: 'Anybody can check this.'}, address: 'https://registry.example/verify.html?number=07-3-2&code=ABCDEFGHIJKLMNOP', qr: ['101', '010', '111'],
   foot: 'Guarantees of origin.', each_page: 'Document 07-3-2, check code ABCD-EFGH-IJKL-MNOP', page: 'page {} of {}'};
 const ITEMS = [{number: 3, account: 12}, {number: 5, account: 12}];
@@ -17,7 +17,7 @@ const factsOf = (made) => Object.fromEntries(texts(made, 'dt').map((name, i) => 
 const claimOf = (made) => [...made.getElementsByTagName('p')].find((of) => of.className === 'claim').textContent;
 
 /** Every text of a document, as the records have it. */
-const textsOf = (of) => [of.house, of.title, of.claim.join(''), ...of.facts.flatMap(({name, lines}) => [name, ...lines]), ...of.notes, ...of.tables.flatMap(({caption, columns, rows}) => [caption, ...columns.map(({name}) => name), ...rows.flat(2)]),
+const textsOf = (of) => [of.house, of.title, of.claim.join(''), ...of.facts.flatMap(({name, lines}) => [name, ...lines]), ...of.notes, ...of.tables.flatMap(({caption, columns, rows}) => [caption, ...columns.filter(({kind}) => kind !== 'ranges').map(({name}) => name), ...rows.flat(2)]),
   of.check.name, of.check.code, of.check.text, of.foot];
 
 test('every text of a document stands on its sheet', () => {
@@ -29,8 +29,8 @@ test('every text of a document stands on its sheet', () => {
 });
 
 test('a sheet has the rows of its document, in their order', () => {
-  assert.deepEqual(texts(sheet(ONE), 'td'), ['2025-01', '15', '07000000000001 – 0700000000001007000000000012', 'North fieldGermany DE']);
-  assert.deepEqual([...sheet(ONE).getElementsByTagName('td')].map((of) => of.getAttribute('data-name')), ['Month', 'MWh', 'Certificates', 'Plant']);
+  assert.deepEqual(texts(sheet(ONE), 'td'), ['2025-01', '15', 'North fieldGermany DE', '07000000000001 – 07000000000010 (10)07000000000012 (1)', 'In all']);
+  assert.deepEqual([...sheet(ONE).getElementsByTagName('td')].map((of) => of.getAttribute('data-name')), ['Month', 'MWh', 'Plant', 'Certificates', 'Plant']);
 });
 
 test('a name that deceives is shown by its codes', () => {
