@@ -83,12 +83,12 @@ function sentFile(name, rows, answers, outcome, rounds) {
 const savedRow = ([key, device, first_day, last_day, gross_wh, aux_wh], i, answer) => ({row: i + 1, key, device, first_day, last_day, gross_wh, aux_wh, outcome: answer?.word ?? 'not sent', reason: answer?.reason ?? '',
   ...(answer?.issued ? {count: answer.issued.count, first: answer.issued.first, last: answer.issued.last} : {})});
 
-/** The rows with what was said of them: those that failed alone, where there are any and many rows. */
+/** The rows with what was said of them: those that failed first, as they have to be looked at. */
 function listOf(name, rows, answers, isIssued = false) {
   const all = rows.map((fields, i) => ({fields, number: i + 1, answer: answers[i]}));
   const failed = all.filter(({answer}) => answer && [...FAILED, 'kept'].includes(answer.word));
-  const some = failed.length && all.length > 400 ? failed : all;
-  const caption = h('span', {}, written(name), `, ${rowsOf(rows.length)}`, some.length < all.length ? some.every(({answer}) => answer.word === 'kept') ? t`; ${count(some.length)} to be looked at` : t`; ${count(some.length)} that failed` : '');
+  const rest = all.filter((row) => !failed.includes(row)), some = [...failed, ...rest];
+  const caption = h('span', {}, written(name), `, ${rowsOf(rows.length)}`, failed.length && rest.length ? failed.every(({answer}) => answer.word === 'kept') ? t`; ${count(failed.length)} to be looked at come first` : t`; ${count(failed.length)} that failed come first` : '');
   return longTable(caption, isIssued ? [...COLUMNS, ...ISSUED] : COLUMNS, some.map(({fields: [key, device, first, last, gross, aux], number: at, answer}) => Object.assign(
     [count(at), key, device, first || last ? between(first ?? '', last ?? '') : '', grouped(gross), grouped(aux), answer ? answer.said : h('span', {class: 'quiet'}, t`not sent`), ...(isIssued ? issuedCells(answer?.issued) : [])],
     {kind: answer?.word})));

@@ -47,16 +47,21 @@ const many = (act) => act.acts > 1 ? [' ', h('a', {href: `#history//bundle=${act
 const ended = (act) => act.lines ? [', ', rowsOf(act.rows)] : act.failed && act.failed < act.acts ? [', ', t`${count(act.failed)} not`] : act.bundle && act.rows > 1 ? [', ', t`none of ${count(act.rows)} requests was carried out`] : '';
 
 const COLUMNS = [[t`When, UTC`, 'wide'], [t`Act`, 'wide'], [t`Count`, 'right'], [t`From`, 'wide'], [t`To`, 'wide'], [t`Certificates`, 'range'], [t`Outcome`, 'wide'], [t`Document`, 'wide'], [t`Note`, 'wide']];
+/** The columns of ranges and documents. */
+const LONG = [5, 7];
 const far = (act) => act.kind === 'export' || act.kind === 'import' ? t`registry ${act.peer}` : '';
 const cells = (act) => Object.assign([whenOf(act), [KINDS[act.kind], many(act)], act.count ? count(act.count) : '', act.kind === 'import' ? far(act) : party(act.giver), act.kind === 'export' ? far(act) : party(act.taker), rangesOf(act),
   [outcome(act), ended(act)], paperOf(act), [act.device ?? '', act.device && act.note ? ', ' : '', act.note ? written(act.note) : '', act.user ? t` by ${act.user}` : '']], {kind: act.outcome === 'accepted' ? 'accepted' : 'refused'});
 
 const choices = (words) => [['', t`all`], ...Object.entries(words)];
-const FILTERS = [{name: 'account', label: t`Account`}, {name: 'kind', label: t`Act`, options: choices(KINDS)}, {name: 'outcome', label: t`Outcome`, options: choices(OUTCOMES)},
-  {name: 'from', label: t`From day`, type: 'date'}, {name: 'to', label: t`To day`, type: 'date'}, {name: 'user', label: t`User`}, {name: 'q', label: t`Text in note, key, device or holder`}];
+const FILTERS = [{name: 'account', label: t`Account`}, {name: 'kind', label: t`Act`, options: choices(KINDS), first: true}, {name: 'outcome', label: t`Outcome`, options: choices(OUTCOMES), first: true},
+  {name: 'from', label: t`From day`, type: 'date'}, {name: 'to', label: t`To day`, type: 'date'}, {name: 'user', label: t`User`, first: true}, {name: 'q', label: t`Text in note, key, device or holder`}];
 
 /** Acts with all that may be filtered; `fixed` is asked always. */
 export const acts = (given, fixed = {}) => listing({name: 'acts', given, fixed, filters: FILTERS, columns: () => COLUMNS, row: cells, empty: t`No act fits.`});
+
+/** A few acts without what a list of them is filtered by. */
+export const briefActs = (caption, items) => table(caption, COLUMNS.filter((_, i) => !LONG.includes(i)), items.map((of) => Object.assign(cells(of).filter((_, i) => !LONG.includes(i)), {kind: of.outcome === 'accepted' ? 'accepted' : 'refused'})));
 
 /** All acts, each bundle as one line; or the acts of one bundle. */
 export function history(account, said) {

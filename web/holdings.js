@@ -65,9 +65,9 @@ async function filters(account) {
   ];
 }
 
-const LOT = [[t`Device`, 'wide', 'site'], [t`Period`, 'wide', 'first_day'], [t`Technology`, 'wide', 'tech'], [t`Source`, 'wide', 'source'], [t`Country`, '', 'country'], [t`Carrier`, '', 'carrier'], [t`Support`, 'wide', 'support'], [t`In operation since`, '', 'commissioned'],
+const LOT = [[t`Device`, 'wide', 'site'], [t`Period`, 'wide', 'first_day'], [t`Technology`, 'wide', 'tech'], [t`Source`, 'wide', 'source'], [t`Country`, '', 'country'], [t`Carrier`, '', 'carrier'], [t`Support`, 'wide', 'support'],
   [t`Tradable until`, 'wide', 'trade_until'], [t`Expires on`, 'wide', 'expires_on']];
-const lotCells = (of) => [[written(of.site), ' ', h('span', {class: 'code'}, of.device)], between(of.first_day, of.last_day), coded('tech', of.tech), coded('source', of.source), coded('country', of.country), t(of.carrier), t(of.support), day(of.commissioned),
+const lotCells = (of) => [[written(of.site), ' ', h('span', {class: 'code'}, of.device), ' ', h('span', {class: 'line quiet'}, t`since ${of.commissioned}`)], between(of.first_day, of.last_day), coded('tech', of.tech), coded('source', of.source), coded('country', of.country), t(of.carrier), t(of.support),
   day(of.trade_until), day(of.expires_on)];
 
 /** What a sum is of, in words; the whole row leads to its lots. */
@@ -89,9 +89,9 @@ export async function holdings(account, said) {
   if (!session.isIssuer && !own.length) return [h('h1', {}, t`Holdings`), h('p', {class: 'quiet'}, t`You have no account yet.`)];
   chosen.begin(at);
   const changed = (values) => globalThis.history.replaceState(null, '', `#holdings/${at ?? ''}/${new URLSearchParams(values)}`);
-  const columns = ({by}) => isOfLots(by) ? [...(isChosenBy(by) ? [['', 'pick']] : []), ...(by === 'run' ? [[t`Certificates`, 'range', 'first']] : []), ...LOT, [t`Count`, 'right', 'count'], ...(by === 'lot' ? [[t`Runs`, 'right', 'runs']] : []), ...(isChosenBy(by) && at ? [['', 'acts']] : [])]
+  const columns = ({by}) => isOfLots(by) ? [...(isChosenBy(by) ? [['', 'pick']] : []), ...(by === 'run' ? [[t`Certificates`, 'range', 'first']] : []), ...LOT, [t`Count`, 'right', 'count'], ...(by === 'lot' ? [[t`Runs`, 'right', 'runs']] : []), ...(hasActs(by, at) ? [['', 'acts']] : [])]
     : [[GROUPS[by][0].toUpperCase() + GROUPS[by].slice(1), 'wide', by], [t`Count`, 'right', 'count'], [t`Runs`, 'right', 'runs']];
-  const row = (of, {by, ...rest}) => isOfLots(by) ? [...(isChosenBy(by) ? [chosen.box(of, by)] : []), ...(by === 'run' ? [between(number(of.first), number(of.last))] : []), ...lotCells(of), count(of.count), ...(by === 'lot' ? [count(of.runs)] : []), ...(isChosenBy(by) && at ? [actsOf(of, by)] : [])]
+  const row = (of, {by, ...rest}) => isOfLots(by) ? [...(isChosenBy(by) ? [chosen.box(of, by)] : []), ...(by === 'run' ? [between(number(of.first), number(of.last))] : []), ...lotCells(of), count(of.count), ...(by === 'lot' ? [count(of.runs)] : []), ...(hasActs(by, at) ? [actOf(of, by)] : [])]
     : groupCells(of, by, at, rest);
   const summary = ({sum}, values) => h('div', {class: 'summed'}, h('p', {}, h('b', {}, t`${count(sum.count)} certificates`), ' ', t`in ${count(sum.lots)} lots and ${count(sum.runs)} runs`),
     isChosenBy(values.by) && sum.count && at ? [chosen.allButton(() => everyItem('holdings', {...only(values), account: at, by: values.by})), chosen.quantityForm((asking) => asked('choice', {...only(values), account: at, ...asking}), session.isIssuer ? ['withdraw'] : ['transfer', 'cancel'])] : null);
@@ -99,11 +99,12 @@ export async function holdings(account, said) {
   return [h('h1', {}, t`Holdings`), switcher(own, at), list, toolbar(ways())];
 }
 
-/** The acts of one row: it alone is chosen, and the way leads to the act. */
-const actsOf = (of, by) => (session.isIssuer ? ['withdraw'] : ['transfer', 'cancel']).map((act) => [h('a', {href: `#selected/${act}`, 'aria-label': `${t(act)}: ${of.site} ${of.first_day}`, onclick: () => {
+/** The way from a row to its withdrawal, for whoever may: it alone is chosen. */
+const hasActs = (by, at) => session.isIssuer && at !== undefined && isChosenBy(by);
+const actOf = (of, by) => h('a', {href: '#selected/withdraw', 'aria-label': `${t('withdraw')}: ${of.site} ${of.first_day}`, onclick: () => {
   chosen.rows.clear();
   chosen.set(of, by, true);
-}}, t(act)), ' ']);
+}}, t('withdraw'));
 
 const only = (values) => Object.fromEntries(FILTERS_OF.filter((name) => values[name]).map((name) => [name, values[name]]));
 

@@ -133,7 +133,6 @@ def test_a_day_after_today_is_typed_twice(own_house: House, visit: Visit) -> Non
     sun, volt = two_accounts(own_house)
     page, before = visit(own_house, 'office', 'date'), own_house.entry()
     page.fill('advance', day=NEXT)
-    assert page.text('form.advance .hint', NEXT) == NEXT
     page.click('form.advance button[type=submit]')
     assert 'after today, 2025-03-01' in page.text('form.advance .hint.wrong')
     assert not page.all('dialog[open]')

@@ -28,7 +28,7 @@ def number(text: str) -> int:
 
 def test_a_holder_sees_the_sums_of_his_accounts(house: House, world: stage.World,
                                                 visit: Visit) -> None:
-    page = visit(house, 'anna', '', 'table')
+    page = visit(house, 'anna', 'account', 'table')
     rows, own = page.cells(), (world.account, world.apart)
     assert [[row[0], *row[3:8]] for row in rows] == [
         [str(of), *(f'{n:,}' for n in stage.statement(house, of)[1].values())] for of in own]

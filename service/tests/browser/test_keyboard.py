@@ -111,18 +111,19 @@ def transfer(house: House, world: stage.World, hands: Hands, chosen: int) -> Non
 
 
 def test_a_certificate_is_cancelled_and_its_document_printed(house: House, visit: Visit) -> None:
-    """Days are typed in whatever order the browser wants day and month."""
+    """Days are typed as they are written, whatever the language of the browser."""
     lot = stage.issue(house)
     page = visit(house, 'anna')
     hands, number = Hands(page), lot.number(0)
     hands.press('nav a', 'Cancel')
     page.see('form.cancel')
     for name, text in (('account', str(lot.account)), ('first', number), ('last', number),
-                       ('beneficiary', 'Bahnhof Nordheim'), ('use_first', '10102024'),
-                       ('use_last', '12122024')):
+                       ('beneficiary', 'Bahnhof Nordheim'), ('use_first', '2024-10-10'),
+                       ('use_last', '2024-12-12')):
         hands.tab_to(f'form.cancel [name={name}]')
         page.keys(text)
-    typed = page.run("return [...document.querySelectorAll('form.cancel input')].map(e => e.value)")
+    typed = page.run("return [...document.querySelectorAll('form.cancel input[name]')]"
+                     '.map(e => e.value)')
     assert typed == [str(lot.account), number, number, 'Bahnhof Nordheim', '2024-10-10',
                      '2024-12-12']
     hands.press('form.cancel button[type=submit]')

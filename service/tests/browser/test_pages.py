@@ -11,12 +11,14 @@ from house import House
 LISTS = ('devices', 'declarations', 'corrections', 'cancellations', 'withdrawals', 'notices',
          'entered', 'statistics')
 OF_HOLDER = {
-    '': 'Ihre Konten', 'holdings/{account}': 'Bestand', 'holdings/{account}/by=tech': 'Bestand',
+    'start': 'Start', 'account': 'Ihre Konten',
+    'holdings/{account}': 'Bestand', 'holdings/{account}/by=tech': 'Bestand',
     'deadlines': 'Fristen', 'history': 'Verlauf', 'act/{act}': 'Vorgang',
     'document/{number}': 'Entwertungsnachweis 07-', 'account/{account}': 'Konto',
     'look-up/{first}': 'Nachschlagen', 'cancel': 'Entwerten', 'export': 'Exportieren',
     'transfer': 'Übertragen', **{f'lists/{name}': '' for name in LISTS}}
 OF_ISSUER = {
+    'start': 'Start',
     'audit': 'Prüfung', 'register': 'Eintragen', 'account': 'Konten', 'account/{account}': 'Konto',
     'correct': 'Berichtigen', 'withdraw': 'Zurückziehen', 'exchange': 'Austausch', 'date': 'Datum',
     'lists/holders': 'Inhaber', 'history//outcome=refused': 'Verlauf',
@@ -57,7 +59,7 @@ def rest(page: Browser, address: str) -> None:
 def test_a_page_can_be_read_at_each_width(house: House, place: dict[str, str], visit: Visit,
                                           user: str, form: str, title: str) -> None:
     """In light and in dark, in English and in German."""
-    page, name = visit(house, user), (form or 'accounts').replace('/', '-')
+    page, name = visit(house, user), form.replace('/', '-')
     for language in ('', '-german'):
         if language:
             page.set_language('de')
@@ -68,7 +70,7 @@ def test_a_page_can_be_read_at_each_width(house: House, place: dict[str, str], v
 def test_the_switch_turns_the_page_to_german(house: House, place: dict[str, str],
                                              visit: Visit) -> None:
     """With its numbers; and back."""
-    page = visit(house, 'anna', '', 'table')
+    page = visit(house, 'anna', 'account', 'table')
     page.click('nav button', 'Deutsch')
     page.see('h1', 'Ihre Konten')
     held = f'{stage.held(house, int(place["account"])):,}'.replace(',', '.')

@@ -7,14 +7,14 @@ from house import House
 def test_a_holder_has_a_holders_pages(house: House, visit: Visit) -> None:
     stage.open_holder(house, 'SUN')
     page = visit(house, 'anna')
-    assert page.texts('nav a') == ['Account', 'Holdings', 'Deadlines', 'History', 'Lists',
-                                   'Transfer', 'Cancel', 'Export', 'Look up']
+    assert page.texts('nav a') == ['Start', 'Deadlines', 'History', 'Account', 'Holdings',
+                                   'Lists', 'Look up', 'Transfer', 'Cancel', 'Export']
     assert page.text('.top .who', 'SUN')
 
 
-def test_the_issuing_body_lands_on_its_audit(house: House, visit: Visit) -> None:
+def test_the_issuing_body_lands_on_its_start_page(house: House, visit: Visit) -> None:
     page = visit(house, 'office')
-    assert page.text('.top .who') == 'Issuing body' and page.text('h1') == 'Audit'
+    assert page.text('.top .who') == 'Issuing body' and page.text('h1') == 'Start'
 
 
 def test_an_auditor_is_offered_nothing_that_is_refused_to_him(house: House, visit: Visit) -> None:
@@ -22,8 +22,8 @@ def test_an_auditor_is_offered_nothing_that_is_refused_to_him(house: House, visi
     house.wait_for_book()
     page = visit(house, 'audit')
     assert page.text('.top .who') == 'Issuing body, read only'
-    assert page.texts('nav a') == ['Audit', 'Holdings', 'Deadlines', 'History', 'Lists', 'Accounts',
-                                   'Look up']
+    assert page.texts('nav a') == ['Start', 'Audit', 'Deadlines', 'History', 'Accounts', 'Holdings',
+                                   'Lists', 'Look up']
     page.go(f'account/{lot.account}', 'table')
     assert page.cells() and not page.all('td.acts a')
     page.look('auditor')
@@ -31,7 +31,7 @@ def test_an_auditor_is_offered_nothing_that_is_refused_to_him(house: House, visi
     assert page.cells()
     assert not page.all('td.pick, .quantity, .chosen:not([hidden])')
     page.go('withdraw')
-    assert page.text('h1') == 'Audit' and not page.all('form.withdraw')
+    assert page.text('h1') == 'Start' and not page.all('form.withdraw')
     page.go('history', 'table')
     assert any('by office' in row[8] for row in page.cells())
     asked = "return (await fetch('/v1/requests', {method: 'POST', body: '{}'})).status"

@@ -28,7 +28,7 @@ def house() -> Iterator[House]:
 
 def test_a_holder_has_the_pages_of_the_registry(house: House, visit: Visit) -> None:
     page = visit(house, 'anna')
-    assert page.texts('nav a') == ['Account', 'Transfer', 'Cancel', 'Export', 'Look up']
+    assert page.texts('nav a') == ['Account', 'Look up', 'Transfer', 'Cancel', 'Export']
     assert page.text('footer') == 'For programs, described by OpenAPI: the registry'
     page.type('.ask input', '1', Keys.ENTER)
     assert 'held' in page.text('ul.sums', '3,940')
