@@ -6,6 +6,7 @@ import {manyDevices} from './devices.js';
 import {noticeAsk, noticeButton} from './documents.js';
 import {drop, field, form} from './forms.js';
 import {t} from './language.js';
+import {manyBy} from './plans.js';
 import {bodyOf, newKey, submit} from './registry.js';
 import {session, memory, today} from './session.js';
 import * as words from './words.js';
@@ -15,12 +16,12 @@ const range = (a, first, last) => ({giver: a ?? own(), account: a ?? own(), firs
 const see = (a) => h('p', {}, h('a', {href: `#account/${a}`}, t`Statement of account ${a}`));
 
 export const transfer = (...p) => [h('h1', {}, 'Transfer'),
-  form('transfer', {filled: range(...p), after: (o, v) => o.good && see(v.giver)})];
+  form('transfer', {filled: range(...p), after: (o, v) => o.good && see(v.giver)}), manyBy('transfer')];
 
 export const cancel = (...p) => [h('h1', {}, 'Cancel'),
   h('p', {class: 'lead'}, 'Cancelling uses certificates up: it discloses the origin of energy that somebody has used.'),
   form('cancel', {filled: range(...p), after: (o) => o.good &&
-    h('p', {}, h('a', {href: `#document/${o.reply.cancellation}`}, t`Document of cancellation ${o.reply.cancellation}, for printing`))})];
+    h('p', {}, h('a', {href: `#document/${o.reply.cancellation}`}, t`Document of cancellation ${o.reply.cancellation}, for printing`))}), manyBy('cancel')];
 
 export const exporting = (...p) => [h('h1', {}, 'Export'),
   form('export', {filled: {...range(...p), account: undefined}, after: (o) => o.good && noticeButton(o.reply.notice)}), noticeAsk()];

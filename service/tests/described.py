@@ -103,7 +103,7 @@ class Description:
         if kind not in content and kind.split(';')[0] not in content:
             return f'{status}: {kind} is not described'
         schema = content.get(kind, content.get(kind.split(';')[0]))['schema']
-        is_binary = kind.startswith('application/vnd.')
+        is_binary = kind.startswith(('application/vnd.', 'application/zip'))
         value = (json.loads(body) if kind.startswith('application/json')
                  else body.decode(errors='replace' if is_binary else 'strict'))
         whole = {'components': self.whole['components'], **schema}

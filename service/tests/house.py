@@ -224,10 +224,17 @@ class House:
             self.door.exchange.mkdir()
             self.door.lay_nginx()
             self.port, self.plain = self.door.port, self.door.plain
-            own = f'name = {BODY}\naddress = {BODY_ADDRESS}\nsite = https://localhost:{self.port}\n'
-            (self.door.etc / 'body.conf').write_text(f'[body]\n{own}', encoding='utf-8')
+            self.lay_documents(self.door.etc)
         for name in ('desk.sock', 'sign-in.sock'):
             (self.folder / name).unlink(missing_ok=True)
+
+    def lay_documents(self, etc: Path) -> None:
+        """What goo-setup makes for documents: the issuing body's name, and a key that seals."""
+        own = f'name = {BODY}\naddress = {BODY_ADDRESS}\nsite = https://localhost:{self.port}\n'
+        (etc / 'body.conf').write_text(f'[body]\n{own}', encoding='utf-8')
+        key = etc / 'documents.key'
+        run(etc, 'openssl', 'genpkey', '-algorithm', 'ed25519', '-out', key)
+        run(etc, 'openssl', 'pkey', '-in', key, '-pubout', '-out', etc / 'documents.pub')
 
     def lay_parts(self) -> None:
         begun = ['--begun', str(CODE), self.day, '1',

@@ -24,9 +24,14 @@ RECORDS = Description('records.yaml')
 OPERATIONS = pytest.mark.parametrize('operation', RECORDS.operations,
                                      ids=[of.name for of in RECORDS.operations])
 CALLERS = strategies.sampled_from([ISSUER, 'SUN', 'VOLT', 'STRANGER'])
-THERE = {'account': '1', 'holder': 'SUN', 'count': '3', 'numbers': '1', 'number': '1'}
+SENT = 'a' * 20
+"""The digest of a table that was sent."""
+THERE = {'account': '1', 'holder': 'SUN', 'table': SENT, 'count': '3', 'numbers': '1',
+         'number': '1'}
 """Parameters that an operation needs, of what is there."""
-TABLES = {'doubts': HEADER + b'k1,%b,2026-07-01,2026-07-31,5,0\n' % DEVICE.encode()}
+BENEFICIARY = b'beneficiary,quantity,use_first,use_last\nRathaus,3,2025-01-01,2025-12-31\n'
+TABLES = {'plan': BENEFICIARY,
+          'doubts': HEADER + b'k1,%b,2026-07-01,2026-07-31,5,0\n' % DEVICE.encode()}
 """What an operation is sent that takes a table."""
 PUBLIC = '''-----BEGIN PUBLIC KEY-----
 MCowBQYDK2VwAyEAGb9ECWmEzf6FQbrBZ9w7lshQhqowtrbLDFw4rXAxZuE=
@@ -42,6 +47,9 @@ def fill(made: Made) -> None:
     first = [7_000_000_000_001 + 100 * month for month in range(3)]
     made.must('SUN', 'cancel', account=1, beneficiary='=Rathaus', use_first='2025-01-01',
               use_last='2025-12-31', first=f'{first[0]:014}', last=f'{first[1] + 4:014}')
+    made.must('SUN', 'cancel', key=f't.{SENT}.1.1', account=1, beneficiary='Rathaus',
+              use_first='2025-01-01', use_last='2025-12-31', first=f'{first[1] + 5:014}',
+              last=f'{first[1] + 6:014}')
     made.must('SUN', 'transfer', giver=1, taker=2, first=f'{first[1] + 10:014}',
               last=f'{first[1] + 19:014}')
     made.must(ISSUER, 'withdraw', first=f'{first[1] + 30:014}', last=f'{first[1] + 31:014}',
@@ -123,7 +131,8 @@ def test_answers_are_as_they_are_described(made: Made, known: dict[str, list[str
     needed = {name: there[name] for name, one in RECORDS.parameters(operation, 'query').items()
               if one.get('required') or name == 'holder'}
     number = '7000000000001' if operation.name == 'certificate' else '1'
-    assert ask(operation.path.format(number=number), needed, ISSUER) == 200
+    caller = 'SUN' if operation.name == 'plan' else ISSUER
+    assert ask(operation.path.format(number=number), needed, caller) == 200
     ask_anything()
 
 

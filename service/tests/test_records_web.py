@@ -19,7 +19,8 @@ TABLE = HEADER + b'k1,500000000000000012,2026-01-01,2026-01-31,5,0\n'
 """What a route is sent that takes a table."""
 NEEDED: dict[str, dict[str, object]] = {
     'choice': {'account': 1, 'count': 1},
-    'party': {'account': 1, 'holder': 'SUN'}, 'documents': {'numbers': 1},
+    'party': {'account': 1, 'holder': 'SUN'}, 'plan': {'account': 1},
+    'papers': {'table': 'a' * 20}, 'documents': {'numbers': 1},
     'verify': {'number': 1, 'code': 'A' * 16}}
 
 

@@ -93,10 +93,6 @@ def outcome_in(line: bytes) -> dict[str, Any]:
     return stated
 
 
-def is_accepted(line: bytes) -> bool:
-    return outcome_in(line).get('outcome') in ('accepted', 'repeated')
-
-
 def refusal(line: Line, name: str, number: int | None) -> dict[str, object]:
     """Why a bundle is refused whole: the line, its key, and what the registry would answer it."""
     named = {} if number is None else {'number': f'{number:014}'}

@@ -38,6 +38,8 @@ PARAMETERS: dict[str, tuple[str, ...]] = {
     'attachments/NUMBER': (),
     'documents': ('numbers', 'lang', 'format'),
     'doubts': (),
+    'plan': ('command', 'account'),
+    'papers': ('table', 'lang'),
     'status': (),
     'openapi.yaml': (),
     'verify': ('number', 'code', 'lang', 'sha256', 'seal'),

@@ -51,6 +51,10 @@ class TooFew(Exception):
     """Fewer certificates than were asked for. The text says how many there are."""
 
 
+class Busy(Exception):
+    """As many files as may be are being written, or tables looked at. The text says it."""
+
+
 @dataclass(frozen=True)
 class Viewer:
     """Who looks, as the front door names him: a holder's code, or ISSUER."""

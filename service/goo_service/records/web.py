@@ -51,11 +51,14 @@ from goo_service.records.paper import Writer
 from goo_service.records.parameters import parameters_of
 from goo_service.records.parties import Parties
 from goo_service.records.parties import TooMany
+from goo_service.records.plan_papers import zip_of
+from goo_service.records.plans import Planner
 from goo_service.records.pdf import NotInstalled
 from goo_service.records.pdf import NotRendered
 from goo_service.records.pdf import pdfs
 from goo_service.records.questions import BadQuestion
 from goo_service.records.questions import FILES
+from goo_service.records.questions import Busy
 from goo_service.records.questions import Given
 from goo_service.records.questions import Listed
 from goo_service.records.questions import NotFound
@@ -111,10 +114,6 @@ class TooLong(Exception):
     """The time of an answer is over."""
 
 
-class Busy(Exception):
-    """As many files as may be are being written."""
-
-
 FAULTS: tuple[type[Exception], ...] = (
     TooLong, Busy, NotRendered, OSError, sqlite3.DatabaseError, *STATUSES)
 """What an answer can come to instead."""
@@ -139,11 +138,11 @@ class Timed(sqlite3.Connection):
         return super().execute(*words)
 
 
-ListOf = Callable[[sqlite3.Connection, Viewer, Given], Listed]
-OneOf = Callable[[sqlite3.Connection, Viewer, int], 'Answer']
-OtherOf = Callable[[sqlite3.Connection, Viewer, Given], Row | Response]
-PostedOf = Callable[[sqlite3.Connection, Viewer, Given, bytes], Row]
 Answer = Response | Listed | Row
+ListOf = Callable[[sqlite3.Connection, Viewer, Given], Listed]
+OneOf = Callable[[sqlite3.Connection, Viewer, int], Answer]
+OtherOf = Callable[[sqlite3.Connection, Viewer, Given], Answer]
+PostedOf = Callable[[sqlite3.Connection, Viewer, Given, bytes], Row]
 
 
 def reply(status: int, value: object, **fields: str) -> Response:
@@ -196,8 +195,10 @@ class Service:
             'acts': acts.act, 'certificates': certificates.certificate,
             'cancellations': self.cancellation, 'attachments': self.attachment}
         self.others: dict[str, OtherOf] = {
-            'status': self.status, 'documents': self.documents, 'party': self.party}
-        self.posted: dict[str, PostedOf] = {'doubts': doubts.doubts}
+            'status': self.status, 'documents': self.documents, 'party': self.party,
+            'papers': self.table_papers}
+        self.planner = Planner()
+        self.posted: dict[str, PostedOf] = {'doubts': doubts.doubts, 'plan': self.plan}
 
     @property
     def maker(self) -> documents.Maker:
@@ -238,7 +239,8 @@ class Service:
         """The answer of a route, or the error that it came to. Its book is closed once it is
         sent."""
         kind = request.args.get('format') or ''
-        seconds = self.limits.file if kind in (*FILES, 'pdf') else self.limits.question
+        is_file = name == 'papers' or kind in (*FILES, 'pdf')
+        seconds = self.limits.file if is_file else self.limits.question
         try:
             given = parameters_of(name, request.args)
             database = self.book(time.monotonic() + seconds)
@@ -266,10 +268,7 @@ class Service:
         if status := STATUSES.get(type(error)):
             wait = {'Retry-After': str(error.wait)} if isinstance(error, TooMany) else {}
             return reply(status, {'error': str(error)}, **wait)
-        if isinstance(error, Busy):
-            text = 'other files are being written: ask again in some seconds'
-            return reply(503, {'error': text}, **BUSY)
-        if isinstance(error, NotRendered):
+        if isinstance(error, Busy | NotRendered):
             return reply(503, {'error': str(error)}, **BUSY)
         if is_late:
             text = (f'the answer takes longer than {seconds:g} s: ask for less, for example for '
@@ -305,7 +304,7 @@ class Service:
     def one_of_few(self, parts: Iterator[bytes]) -> Any:
         """The same parts, while no more files are under way than may be."""
         if not self.files.acquire(blocking=False):
-            raise Busy
+            raise Busy('other files are being written: ask again in some seconds')
         try:
             yield from parts
         finally:
@@ -390,7 +389,7 @@ class Service:
         files."""
         key = key_of_seals(self.etc)
         if not self.papers.acquire(blocking=False):
-            raise Busy
+            raise Busy('another document is being made: ask again in some seconds')
         try:
             made, = self.one_of_few(pdfs([paper]))
         finally:
@@ -408,6 +407,25 @@ class Service:
     def party(self, database: sqlite3.Connection, viewer: Viewer, given: Given) -> Row:
         user = request.headers.get('GOO-User') or viewer.caller
         return self.parties.party(database, viewer, given, user)
+
+    def plan(self, database: sqlite3.Connection, viewer: Viewer, given: Given,
+             body: bytes) -> Row:
+        """What a table of transfers or cancellations comes to."""
+        def pair(account: int, holder: str) -> Row:
+            return self.party(database, viewer, {'account': str(account), 'holder': holder})
+
+        return self.planner.plan(database, viewer, given, body, pair)
+
+    def table_papers(self, database: sqlite3.Connection, viewer: Viewer,
+                     given: Given) -> Response:
+        """The documents of a table that was sent, in a ZIP."""
+        def parts() -> Iterator[bytes]:
+            yield zip_of(database, viewer, given, self.maker)
+
+        whole = b''.join(self.one_of_few(parts()))
+        name = f'documents-{given["table"]}.zip'
+        fields = {**HEADERS, 'Content-Disposition': f'attachment; filename="{name}"'}
+        return Response(whole, 200, fields, content_type='application/zip')
 
     def attachments(self, _: sqlite3.Connection, viewer: Viewer, given: Given) -> Listed:
         return self.kept.listed(viewer, given)

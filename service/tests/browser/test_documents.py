@@ -1,7 +1,6 @@
 """Documents of cancellations: on the screen, on paper, and checked by a stranger."""
 import re
 import subprocess
-from collections.abc import Iterator
 from dataclasses import dataclass
 from pathlib import Path
 
@@ -23,18 +22,6 @@ class Document:
     number: str
     code: str
     count: int
-
-
-@pytest.fixture(scope='module')
-def house() -> Iterator[House]:
-    """A house with keys that seal documents."""
-    with House() as standing:
-        key, public = (standing.folder / 'etc' / f'documents.{end}' for end in ('key', 'pub'))
-        subprocess.run(['openssl', 'genpkey', '-algorithm', 'ed25519', '-out', key], check=True,
-                       capture_output=True)
-        subprocess.run(['openssl', 'pkey', '-in', key, '-pubout', '-out', public], check=True,
-                       capture_output=True)
-        yield standing
 
 
 @pytest.fixture(scope='module')

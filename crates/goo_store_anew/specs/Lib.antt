@@ -1,0 +1,3 @@
+pub mod Questions
+pub mod Answered
+pub mod Quiet
