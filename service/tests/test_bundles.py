@@ -286,7 +286,7 @@ def test_a_rehearsal_says_what_the_program_says(file: Path, tmp_path_factory: An
     try:
         with contextlib.closing(sqlite3.connect(file)) as database:
             numbered = [bundles.line_of(at, text) for at, text in enumerate(lines, 1)]
-            said = rehearse.rehearsed(database, str(GOO), caller, numbered)
+            said = rehearse.rehearsed(database, GOO, caller, numbered)
         wanted: dict[str, object] = {'rehearsed': len(lines)}
         for at, (text, answer) in enumerate(zip(lines, run_lines(copy, [(caller, text)
                                                                         for text in lines])), 1):
@@ -298,13 +298,26 @@ def test_a_rehearsal_says_what_the_program_says(file: Path, tmp_path_factory: An
         copy.unlink()
 
 
+def test_a_rehearsal_carries_out_each_line_over_those_before(file: Path) -> None:
+    """What a line brings to an account the next one may move on, and nobody moves it twice."""
+    span = {'first': f'{CODE * 10 ** 12 + 11:014}', 'last': f'{CODE * 10 ** 12 + 12:014}'}
+    ways = [(1, 3), (3, 2), (3, 2)]
+    lines = [bundles.line_of(at, line(f'w{at}', giver=giver, taker=taker, **span))
+             for at, (giver, taker) in enumerate(ways, 1)]
+    with contextlib.closing(sqlite3.connect(file)) as database:
+        assert rehearse.rehearsed(database, GOO, 'SUN', lines[:2]) == {'rehearsed': 2}
+        assert rehearse.rehearsed(database, GOO, 'SUN', lines) == {
+            'line': 3, 'key': 'w3', 'code': 17, 'name': 'NotHeld', 'number': span['first'],
+            'outcome': 'refused'}
+
+
 def test_more_runs_than_are_rehearsed(file: Path, monkeypatch: pytest.MonkeyPatch) -> None:
     monkeypatch.setattr(rehearse, 'RUNS', 6)
     with contextlib.closing(sqlite3.connect(file)) as database:
         def said(first: int, last: int) -> dict[str, object]:
             text = line('a', giver=1, taker=2, first=f'{CODE * 10 ** 12 + first:014}',
                         last=f'{CODE * 10 ** 12 + last:014}')
-            return rehearse.rehearsed(database, str(GOO), 'SUN', [bundles.line_of(1, text)])
+            return rehearse.rehearsed(database, GOO, 'SUN', [bundles.line_of(1, text)])
         assert said(11, 20) == {'rehearsed': 1}
         assert said(1, 40) == {'name': 'TooManyRuns', 'most': 6, 'outcome': 'refused'}
 

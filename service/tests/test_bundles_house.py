@@ -25,6 +25,11 @@ def body_of(*requests: dict[str, Any]) -> str:
     return ''.join(f'{json.dumps(of)}\n' for of in requests)
 
 
+def sent(house: House, route: str, body: str) -> Answer:
+    """The answer to a bundle of anna's, which takes its time on a machine that does much else."""
+    return house.ask('anna', 'POST', route, body, patience=300)
+
+
 def answers(answer: Answer) -> list[Any]:
     """What each line came to."""
     assert answer.status == 200, (answer.status, answer.text)
@@ -43,7 +48,7 @@ def test_a_bundle_is_one_entry_and_is_repeated_as_a_whole(own_house: House) -> N
     before = own_house.entry()
     body = body_of(*(transfer(f't{at}', land.first + at) for at in range(6)))
     for outcome in ('accepted', 'repeated'):
-        answer = own_house.ask('anna', 'POST', ROUTE, body)
+        answer = sent(own_house, ROUTE, body)
         assert answers(answer) == [{'outcome': outcome, 'reply': {'count': 1}}] * 6
     assert own_house.entry() == before + 2 and answer.entry == before + 2
     assert held(own_house, 'anna', land.sun) == '4'
@@ -54,19 +59,19 @@ def test_a_bundle_with_one_bad_line_is_refused_whole(own_house: House) -> None:
     land = own_house.make_country(10)
     lines = [transfer(f't{at}', land.first + at) for at in range(9)]
     lines[7] = transfer('t7', land.first + 3)           # line 4 has moved it by then
-    answer = own_house.ask('anna', 'POST', WHOLE, body_of(*lines))
+    answer = sent(own_house, WHOLE, body_of(*lines))
     assert answer.status == 409 and answer.json == {
         'line': 8, 'key': 't7', 'code': 17, 'name': 'NotHeld', 'outcome': 'refused',
         'number': f'{land.first + 3:014}'}
     assert held(own_house, 'anna', land.sun) == '10'
     lines[7] = transfer('t7', land.first + 7)
-    answer = own_house.ask('anna', 'POST', WHOLE, body_of(*lines))
+    answer = sent(own_house, WHOLE, body_of(*lines))
     assert [of['outcome'] for of in answers(answer)] == ['accepted'] * 9
 
 
 def test_each_line_by_itself(own_house: House) -> None:
     land = own_house.make_country(10)
-    answer = own_house.ask('anna', 'POST', ROUTE, body_of(
+    answer = sent(own_house, ROUTE, body_of(
         transfer('a', land.first, 3), transfer('b', land.first + 2), {'key': 'c'},
         transfer('d', land.first + 3)))
     assert [of['outcome'] for of in answers(answer)] == [
@@ -81,12 +86,13 @@ def test_a_colleague_reads_and_sends_meanwhile(own_house: House) -> None:
     land = own_house.make_country(200)
     body = body_of(*(transfer(f't{at}', land.first + at) for at in range(150)))
     bundle = in_thread(own_house, WHOLE, body)
-    assert client.comes(lambda: bool(own_house.health()['behind']) or not bundle.is_alive(), 60)
+    assert client.comes(lambda: bool(own_house.health()['behind']) or not bundle.is_alive(), 120)
     own_house.ask('anna', 'GET', '/v1/accounts/1/statement')
     answer = own_house.ask_log('SUN', 'POST', '/v1/requests',
-                               json.dumps(transfer('own', land.first + 190)), user='colleague')
+                               json.dumps(transfer('own', land.first + 190)), user='colleague',
+                               patience=300)
     assert answer.status == 200
-    bundle.join(120)
+    bundle.join(300)
     assert not bundle.is_alive()
     assert held(own_house, 'bela', land.volt) == '151'
     records = archived(own_house)
@@ -101,7 +107,7 @@ def in_thread(house: House, route: str, body: str) -> threading.Thread:
     """The bundle is on its way. Whoever kills the log leaves it without an answer."""
     def send() -> None:
         with contextlib.suppress(Exception):
-            house.ask('anna', 'POST', route, body)
+            sent(house, route, body)
 
     thread = threading.Thread(target=send)
     thread.start()
@@ -113,7 +119,7 @@ def in_thread(house: House, route: str, body: str) -> threading.Thread:
 def cut_in_the_middle(house: House, route: str, body: str) -> None:
     """Log and registry are killed once some lines are applied, and stand again."""
     bundle = in_thread(house, route, body)
-    assert client.comes(lambda: held(house, 'bela', 2) not in ('0', ''), 60)
+    assert client.comes(lambda: held(house, 'bela', 2) not in ('0', ''), 120)
     house.kill('log')
     house.kill('registry')
     bundle.join(60)
@@ -130,7 +136,7 @@ def test_a_power_cut_in_the_middle_and_the_same_again(own_house: House) -> None:
              transfer('late', land.first + 299, taker=3),
              *(transfer(f't{at}', land.first + at) for at in range(1, 200))]
     cut_in_the_middle(own_house, ROUTE, body_of(*lines))
-    again = answers(own_house.ask('anna', 'POST', ROUTE, body_of(*lines[1:])))
+    again = answers(sent(own_house, ROUTE, body_of(*lines[1:])))
     assert {of['outcome'] for of in again} == {'repeated'}
     assert [held(own_house, user, account) for user, account in
             (('anna', 1), ('bela', 2), ('anna', 3))] == ['99', '200', '1']
@@ -144,7 +150,7 @@ def test_a_power_cut_in_a_bundle_that_is_whole(own_house: House) -> None:
     land = own_house.make_country(300)
     body = body_of(*(transfer(f't{at}', land.first + at) for at in range(200)))
     cut_in_the_middle(own_house, WHOLE, body)
-    again = answers(own_house.ask('anna', 'POST', WHOLE, body))
+    again = answers(sent(own_house, WHOLE, body))
     assert [of['outcome'] for of in again] == ['repeated'] * 200
     assert held(own_house, 'bela', land.volt) == '200'
     holds(own_house)
@@ -169,13 +175,13 @@ def test_log_copies_recount_and_book_hold_across_bundles(own_house: House) -> No
         'command': 'cancel', 'account': land.sun, 'beneficiary': 'Rathaus',
         'use_first': '2025-01-01', 'use_last': '2025-12-31'}
     holds(own_house)
-    own_house.ask('anna', 'POST', ROUTE, body_of(
+    sent(own_house, ROUTE, body_of(
         transfer('a', land.first, 3), transfer('b', land.first), {'key': 'c'},
         {**cancel, 'key': 'd', 'first': f'{land.first + 9:014}', 'last': f'{land.first + 12:014}'}))
-    own_house.ask('anna', 'POST', WHOLE, body_of(
+    sent(own_house, WHOLE, body_of(
         *({**cancel, 'key': f'e{at}', 'first': f'{land.first + at:014}',
            'last': f'{land.first + at:014}'} for at in range(20, 30))))
-    refused = own_house.ask('anna', 'POST', WHOLE, body_of(
+    refused = sent(own_house, WHOLE, body_of(
         transfer('f', land.first + 40), transfer('g', land.first + 40)))
     assert refused.status == 409
     holds(own_house)

@@ -1,4 +1,5 @@
 """Documents as PDF: what stands there, the bounds of the renderer, and the seal."""
+import functools
 import re
 import subprocess
 import threading
@@ -54,7 +55,9 @@ def made(tmp_path_factory: pytest.TempPathFactory) -> Made:
     return begun
 
 
+@functools.cache
 def pdf_of(made: Made, numbers: str, lang: str = 'en') -> bytes:
+    """A PDF, made once for all tests: to render one takes long."""
     answer = made.client().get('/records/v1/documents', headers=SUN, query_string={
         'numbers': numbers, 'lang': lang, 'format': 'pdf'})
     assert answer.status_code == 200, answer.get_data()

@@ -171,16 +171,18 @@ def test_a_statement_ends_when_its_time_is_over(made: Made, monkeypatch: Any) ->
     assert 0.2 < time.monotonic() - begun < 5
 
 
-def test_a_file_whose_time_ends_within_is_no_whole_file(made: Made) -> None:
+def test_a_file_whose_time_ends_within_is_no_whole_file(made: Made,
+                                                        monkeypatch: pytest.MonkeyPatch) -> None:
     for at in range(2000):
         made.send_body('SUN', b'%d' % at)
-    client = slow_client(made, file=0.5)
+    client = slow_client(made, file=600)
     answer = client.get('/records/v1/acts?format=csv', headers=HEAD, buffered=False)
     parts = iter(answer.response)
     assert answer.status_code == 200
     assert next(parts).startswith(b'id,')
-    time.sleep(0.6)
-    with pytest.raises(web.TooLong):
+    later = time.monotonic() + 700
+    with monkeypatch.context() as clock, pytest.raises(web.TooLong):
+        clock.setattr(time, 'monotonic', lambda: later)
         list(parts)
     answer.close()
 

@@ -178,6 +178,8 @@ def faults_of_party(service: Service, rows: Rows) -> Iterator[object]:
 
 OTHERS = {'choice': faults_of_choice, 'documents': faults_of_documents, 'status': faults_of_status,
           'party': faults_of_party}
+ELSEWHERE = {'attachments'}
+"""A registry that was not brought over has none: test_migrate.py tries who sees one."""
 NOBODY: tuple[list[str], ...] = ([], ['SUN', 'SUN'], ['SUN', ISSUER], ['sun'], [''],
                                  ['SUN VOLT'], ['%'], ['A' * 17])
 """Fields of a request that do not say who asks."""

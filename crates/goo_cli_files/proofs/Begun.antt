@@ -3,7 +3,7 @@ use Rattle.std.proofs.Common.{◌≡◌, ◌∙◌, ap, subst, List, ℕ, Option
 use Rattle.sqlite_disk.specs.declared.Disk.{Ghosts}
 use Rattle.goo_spec.specs.State.{State}
 use Rattle.goo_core_shelf.specs.Shelf.{IsSafe, Moment}
-use Rattle.goo_files.specs.Writes.{Wrote}
+use Rattle.goo_files.specs.Writes.{Began, Wrote}
 use Rattle.sqlite_wal.specs.Reads.{AreClean}
 use Rattle.sqlite.specs.declared.file.Leftover.{Leftover}
 use Rattle.goo_cli_registry.specs.Closings.{HoldRegistry, HoldState, HoldsSome, IfRefused, IfWhole}
@@ -15,6 +15,9 @@ use Rattle.goo_desk_server.specs.Runs as serving
 
 pub wrote_begun : (right : State → List ℕ → Type 0) (had has : Option (List ℕ)) (seen begun : State) → seen ≡ begun → Wrote had has (right seen) → Wrote had has (right begun)
 wrote_begun right had has seen begun same told = subst (λ (s : State). Wrote had has (right s)) same told
+
+pub began_begun : (right : State → List ℕ → Type 0) (had has : Option (List ℕ)) (seen begun : State) → seen ≡ begun → Began had has (right seen) → Began had has (right begun)
+began_begun right had has seen begun same told = subst (λ (s : State). Began had has (right s)) same told
 
 -- what so holds of the state that was known is so of what the file holds, where the log was copied
 pub holds_some : {D : Type 0} {g : Ghosts D} (rest : Left D g) (new : State) (defects : ℕ) (right : State → Type 0) → (defects ≡ 0 → right new) → IfWhole rest (λ files. HoldState g files new)

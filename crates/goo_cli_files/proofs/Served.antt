@@ -1,12 +1,13 @@
 -- A server that ended well.
-use Rattle.std.proofs.Common.{◌≡◌, ℕ, arith, refl, sym, subst, List, Option, Result, Ok, Err, OnOk}
+use Rattle.std.proofs.Common.{◌≡◌, ℕ, arith, inl, inr, refl, sym, subst, List, Option, Result, Ok, Err, OnOk}
 use Rattle.goo_spec.specs.State.{State}
 use Rattle.goo_cli_ending.specs.Endings.{status_of}
 use Rattle.goo_cli_ending.specs.declared.ending.Ending.{Ending}
 use Rattle.goo_cli_ending.specs.declared.ending.Ending.TheVariants.{Failed}
 use Rattle.goo_cli_ending.specs.declared.ending.Failure.{Failure}
 use Rattle.goo_desk_listener.specs.Clients.{Clients, KeepsClients}
-use Rattle.goo_cli_files.specs.ServerEndings.{ending_of_server, IsCounted}
+use Rattle.goo_cli_registry.specs.Openings.{IsFault}
+use Rattle.goo_cli_files.specs.ServerEndings.{ending_of_server, IsCounted, IsOfServer}
 use Rattle.goo_desk_server.specs.Runs.{KeepsPromise}
 use Rattle.goo_desk_server.specs.Serving as server
 use Rattle.goo_desk_server.specs.declared.server_fault.ServerFault.{ServerFault}
@@ -26,6 +27,11 @@ counted_by (Err Write) was now asked is = record { all = λ zero. absurd (omega 
 counted_by (Err Memory) was now asked is = record { all = λ zero. absurd (omega (arith, zero)); grown = omega (arith, is); few = omega (arith, is); fewer = λ some fault any. omega (arith, is, any) }
 counted_by (Err Accept) was now asked (low, high) = record { all = λ zero. absurd (omega (arith, zero)); grown = low; few = omega (arith, high); fewer = λ some fault any. high }
 counted_by (Err Store) was now asked (low, high) = record { all = λ zero. absurd (omega (arith, zero)); grown = omega (arith, low); few = high; fewer = λ some fault any. absurd (fault refl) }
+
+-- a registry that was not made
+pub of_fault : (told : Failure) → IsFault told → IsOfServer (Failed told)
+of_fault told (inl is) = subst (λ (f : Failure). IsOfServer (Failed f)) (sym is) tt
+of_fault told (inr is) = subst (λ (f : Failure). IsOfServer (Failed f)) (sym is) tt
 
 -- nothing was accepted before a fault
 pub none_counted : (why : Failure) (was now asked : ℕ) → now ≡ was → IsCounted (Failed why) was now asked

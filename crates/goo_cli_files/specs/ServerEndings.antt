@@ -15,6 +15,21 @@ ending_of_server (Err server.Accept) = ending.Failed failure.Read
 ending_of_server (Err server.Store) = ending.Failed failure.Store
 ending_of_server (Err server.Memory) = ending.Failed failure.Memory
 
+-- how a server may end
+abbrev pub IsOfServer : Ending → Type 0
+IsOfServer ending.Done = Unit {0}
+IsOfServer ending.PartlyDone = ⊥
+IsOfServer (ending.Denied denial) = ⊥
+IsOfServer (ending.Words error) = ⊥
+IsOfServer (ending.Misused reason) = ⊥
+IsOfServer (ending.Failed failure.Store) = Unit {0}
+IsOfServer (ending.Failed failure.Memory) = Unit {0}
+IsOfServer (ending.Failed failure.Read) = Unit {0}
+IsOfServer (ending.Failed failure.Write) = Unit {0}
+IsOfServer (ending.Failed failure.NotARegistry) = ⊥
+IsOfServer (ending.Failed (failure.Version version)) = ⊥
+IsOfServer (ending.Failed failure.Damaged) = ⊥
+
 -- the line that tells at which port it listens
 abbrev pub listening_text : ℕ → List ℕ
 listening_text port = codes "listening 127.0.0.1:" ++ (decimal port ++ codes "\n")

@@ -6,6 +6,8 @@ use Rattle.goo_core_shelf.specs.Desk.{Seen}
 use Rattle.goo_desk_backend.specs.Showing.{begun_by, imported_by, shown_by}
 use Rattle.goo_desk_listener.specs.Clients.{Address, Clients, loopback}
 use Rattle.goo_desk_server.specs.Serving as server
+use Rattle.goo_cli_ending.specs.declared.ending.Ending.{Ending}
+use Rattle.goo_cli_registry.specs.Durable.{IsUnopened}
 use Rattle.goo_cli_files.specs.ServerEndings.{listening_text}
 
 -- what connections of a registry leave and are sent, and what a crash finds
@@ -28,6 +30,11 @@ nothing_kept found = ⊥
 -- connections were served by a new registry, or none was accepted
 abbrev pub ServesNew : Clients → Clients → State → Type 0
 ServesNew from now s = (now ≡ from) ⊎ ServesConnections from now s nothing_kept
+
+-- no registry was opened, for a reason that is told: nothing was written, and the listener was asked for nothing
+pub record IsUnserved (told : Ending) (had has : Option (List ℕ)) (from now : Clients) : Type 0 where
+  pub unopened : IsUnopened told had has
+  pub unheard : now ≡ from
 
 -- it listens at this port of this machine, and the line that tells so is written
 pub record IsAnnounced (port : ℕ) (at : Option Address) (had has : Option (List ℕ)) : Type 0 where

@@ -6,6 +6,5 @@ mod serve_registry;
 mod serving;
 mod texts;
 
-pub use goo_desk_server::{Listener, LocalListener, SystemSocket};
 pub use serving::{serve_in_files, serve_new};
 pub use texts::{audit_in_files, declare_in_files, statement_in_files};

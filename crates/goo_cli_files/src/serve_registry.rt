@@ -1,12 +1,12 @@
 //! A registry over any shelf, served over HTTP.
-ghost use Rattle.std.specs.Prelude.{◌≡◌, ◌≢◌, []};
+ghost use Rattle.std.specs.Prelude.{◌≡◌, []};
 ghost use Rattle.std.specs.Io.Buffered.{writer_buffer, writer_contents};
 ghost use Rattle.goo_cli_ending.specs.Endings.{status_of};
 ghost use Rattle.goo_spec.specs.Sound.{IsSound};
 ghost use Rattle.goo_desk_server.specs.Runs.{KeepsPromise};
 ghost use Rattle.goo_registry.specs.Desks.{seen_of};
 ghost use Rattle.goo_cli_files.specs.ServesConnections.{IsAnnounced, ServesTo};
-ghost use Rattle.goo_cli_files.specs.ServerEndings.{ending_of_server, IsCounted};
+ghost use Rattle.goo_cli_files.specs.ServerEndings.{ending_of_server, IsCounted, IsOfServer};
 
 use goo_cli::Serving;
 use goo_cli_ending::{Ending, Failure};
@@ -19,7 +19,7 @@ use std::io::{BufWriter, Write};
 /// How the program ends where a server ended.
 fn ending_of(served: Result<(), ServerFault>) -> Ending
     ensures value { result ≡ ending_of_server served }
-    ensures words { status_of result ≢ 2 }
+    ensures words { IsOfServer result }
 {
     match served {
         Ok(()) => Ending::Done,
@@ -38,6 +38,7 @@ fn ending_of(served: Result<(), ServerFault>) -> Ending
 /// - `counted`: status 0 just where as many connections were accepted as asked for, unless the
 ///   records failed at the last one; never more are.
 /// - `serves`, `promised`: as of [`serve`].
+/// - `words`: it ends as a server does.
 pub(crate) fn serve_registry<S: Shelf, L: Listener, W: Write + Drop>(
     alloc: Global,
     registry: &mut Registry<S>,
@@ -45,7 +46,7 @@ pub(crate) fn serve_registry<S: Shelf, L: Listener, W: Write + Drop>(
     listener: &mut L,
     writer: &mut BufWriter<W>,
 ) -> Ending
-    ensures words { status_of result ≢ 2 }
+    ensures words { IsOfServer result }
     ensures announced { status_of result ≡ 0
         → IsAnnounced serving.port (L.clients listener.new).at
         (writer_contents W.contents writer.old) (writer_contents W.contents writer.new) }

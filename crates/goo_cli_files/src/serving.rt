@@ -9,10 +9,11 @@ ghost use Rattle.goo_store_opening.specs.Versions.{state_held};
 ghost use Rattle.goo_store_judge.specs.Moments.{moment};
 ghost use Rattle.goo_desk_server.specs.Runs.{KeepsPromise};
 ghost use Rattle.goo_cli_ending.specs.Endings.{status_of};
-ghost use Rattle.goo_cli_files.specs.ServerEndings.{IsCounted};
-ghost use Rattle.goo_cli_files.specs.ServesConnections.{IsAnnounced, ServesConnections, ServesNew};
+ghost use Rattle.goo_cli_files.specs.ServerEndings.{IsCounted, IsOfServer};
+ghost use Rattle.goo_cli_files.specs.ServesConnections.{IsAnnounced, IsUnserved};
+ghost use Rattle.goo_cli_files.specs.ServesConnections.{ServesConnections, ServesNew};
 ghost use Rattle.goo_cli_registry.specs.Closings.{HasSpareLog, HoldsSome, IfRefused, IsClean};
-ghost use Rattle.goo_cli_registry.specs.Closings.{LeavesRegistry};
+ghost use Rattle.goo_cli_registry.specs.Refusals.{IsTurnedAway};
 ghost use Rattle.goo_cli_registry.specs.Openings.{IsRun};
 ghost use Rattle.goo_cli_registry.specs.Durable.{IfOpened};
 ghost use Rattle.goo_cli_files.specs.Durable.{IsLeftToFind};
@@ -47,6 +48,7 @@ pub fn serve_new<S: Alter, L: Listener, W: Write + Drop>(
     writer: &mut BufWriter<W>,
 ) -> (Ending, Connection<S>)
     requires outside { conn.in_transaction ≡ false }
+    ensures words { IsOfServer result.0 }
     ensures announced { status_of result.0 ≡ 0
         → IsAnnounced serving.port (L.clients listener.new).at
         (writer_contents W.contents writer.old) (writer_contents W.contents writer.new) }
@@ -88,8 +90,11 @@ pub fn serve_new<S: Alter, L: Listener, W: Write + Drop>(
 ///   the requests that the connections left applied, and what the file alone holds then, where the
 ///   log could be copied. The bytes of each connection are those that its client sent, where the
 ///   listener tells them.
-/// - `unharmed`: where there is no registry, no harm came to what the files held, after a crash
-///   too: but for a registry of version 1, the same registry in version 2 may be found then.
+/// - `words`: it ends as a server does, where a registry was opened.
+/// - `refused`, `turned_away`: where there is none, the word for what the files hold is told, or a fault
+///   of the store or want of memory; nothing was written, no port was asked for, and no harm came to
+///   what the files held, after a crash too: but for a registry of version 1, the same registry in
+///   version 2 may be found then.
 /// - `copied`: a log that is said to be copied into the database file is.
 pub fn serve_in_files<D: Disk + Drop, L: Listener, W: Write + Drop, E: Write>(
     alloc: Global,
@@ -102,6 +107,11 @@ pub fn serve_in_files<D: Disk + Drop, L: Listener, W: Write + Drop, E: Write>(
 ) -> (Ending, Left<D>)
     requires log { IsTrue (D.Disk.is_usable files.log) }
     requires db { IsTrue (D.Disk.is_usable files.db) }
+    ensures words { IfOpened result.1 (IsOfServer result.0) }
+    ensures refused { IfRefused result.1
+        (λ _. IsUnserved result.0 (writer_contents W.contents writer.old)
+        (writer_contents W.contents writer.new) (L.clients listener.old)
+        (L.clients listener.new)) }
     ensures announced { status_of result.0 ≡ 0
         → IsAnnounced serving.port (L.clients listener.new).at
         (writer_contents W.contents writer.old) (writer_contents W.contents writer.new) }
@@ -112,7 +122,7 @@ pub fn serve_in_files<D: Disk + Drop, L: Listener, W: Write + Drop, E: Write>(
         → HoldsSome result.1
         (KeepsPromise (L.clients listener.old).sends (L.clients listener.old).accepted
         (L.clients listener.new).accepted (state_held db)) }
-    ensures unharmed { IsClean result.1 → IfRefused result.1 (LeavesRegistry files) }
+    ensures turned_away { IsClean result.1 → IfRefused result.1 (IsTurnedAway files result.0) }
     ensures copied { HasSpareLog result.1 }
     ensures serves { IsClean result.1 → (db : Trees) → HoldsDatabase (image_of D.Disk files) db
         → IfOpened result.1 (ServesConnections (L.clients listener.old) (L.clients listener.new)

@@ -5,14 +5,14 @@ ghost use Rattle.std.specs.Io.Buffered.{writer_buffer, writer_contents};
 ghost use Rattle.std.specs.Io.KnownBytes.{Keeps};
 ghost use Rattle.sqlite.specs.Files.{image_of, HoldsDatabase};
 ghost use Rattle.sqlite.specs.Tree.{Trees};
-ghost use Rattle.goo_spec.specs.Sound.{IsSound};
 ghost use Rattle.goo_store_opening.specs.Versions.{state_held};
 ghost use Rattle.goo_files.specs.Texts.{IsStatement, IsAuditText};
-ghost use Rattle.goo_files.specs.Writes.{Wrote};
+ghost use Rattle.goo_files.specs.Writes.{Began, Wrote};
 ghost use Rattle.goo_cli_ending.specs.Endings.{status_of};
-ghost use Rattle.goo_cli_registry.specs.Closings.{HasSpareLog, IfRefused, IsClean, LeavesRegistry};
+ghost use Rattle.goo_cli_registry.specs.Closings.{HasSpareLog, IfRefused, IsClean};
 ghost use Rattle.goo_cli_registry.specs.Durable.{IfOpened, IsInFile, IsUnbegun, IsUnopened, MayOpen};
-ghost use Rattle.goo_cli_registry.specs.Finds.{HasState};
+ghost use Rattle.goo_cli_registry.specs.Finds.{Begins, HasState};
+ghost use Rattle.goo_cli_registry.specs.Refusals.{IsTurnedAway};
 ghost use Rattle.goo_cli_texts.specs.Declaring.{DeclaresRows};
 ghost use Rattle.goo_cli_texts.specs.Endings.{IsOfImport, IsOfText};
 
@@ -36,11 +36,14 @@ use std::io::{BufWriter, Read, Write};
 /// - `runs`: what the reader gave, and the first of its rows ([`declare`]), from the state that the
 ///   files held. The database file alone holds what these rows come to, after a crash too, where the
 ///   log could be copied into it; else the next opening finds that, or one row more at most.
-/// - `sound`: what the files held is sound, so that what a registry promises holds of these rows.
+/// - `begins`: what the files held is sound, so that what a registry promises holds of these rows. Where
+///   they hold what a crash left of a registry, it is the state that the crash is said to leave, one
+///   of two at most.
 /// - `words`: it ends as an import does.
-/// - `refused`, `unharmed`: where there is no registry, the fault is told, nothing was read or written,
-///   and no harm came to what the files held, after a crash too: but for a registry of version 1, the
-///   same registry in version 2 may be found then.
+/// - `refused`, `turned_away`: where there is no registry, the word for what the files hold is told, or a
+///   fault of the store or want of memory; nothing was read or written, and no harm came to what the
+///   files held, after a crash too: but for a registry of version 1, the same registry in version 2 may
+///   be found then.
 /// - `flushed`: with status 0 nothing is left in the writer's buffer.
 /// - `copied`: a log that is said to be copied into the database file is.
 pub fn declare_in_files<D: Disk + Drop, R: Read, W: Write + Drop, T: Write, E: Write>(
@@ -58,14 +61,14 @@ pub fn declare_in_files<D: Disk + Drop, R: Read, W: Write + Drop, T: Write, E: W
         → IfOpened result.1 (DeclaresRows result.0 (state_held db)
         (writer_contents W.contents writer.old) (writer_contents W.contents writer.new)
         (IsInFile result.1) (MayOpen result.1) (R.remaining reader.old) (R.remaining reader.new)) }
-    ensures sound { IsClean result.1 → (db : Trees) → HoldsDatabase (image_of D.Disk files) db
-        → IfOpened result.1 (IsSound (state_held db)) }
+    ensures begins { IsClean result.1 → (db : Trees) → HoldsDatabase (image_of D.Disk files) db
+        → IfOpened result.1 (Begins db) }
     ensures words { IfOpened result.1 (IsOfImport result.0) }
     ensures refused { IfRefused result.1
         (λ _. IsUnbegun result.0 (writer_contents W.contents writer.old)
         (writer_contents W.contents writer.new) (R.remaining reader.old)
         (R.remaining reader.new)) }
-    ensures unharmed { IsClean result.1 → IfRefused result.1 (LeavesRegistry files) }
+    ensures turned_away { IsClean result.1 → IfRefused result.1 (IsTurnedAway files result.0) }
     ensures flushed { status_of result.0 ≡ 0 → writer_buffer writer.new ≡ [] }
     ensures copied { HasSpareLog result.1 }
 {
@@ -87,11 +90,12 @@ pub fn declare_in_files<D: Disk + Drop, R: Read, W: Write + Drop, T: Write, E: W
 ///   the writer's buffer.
 /// - `unknown`, `silent`: status 1 only where there is no such account, and nothing is written
 ///   then.
+/// - `begun`: what is written with status 3 is nothing, or a beginning of the statement.
 /// - `kept`: whatever the status, the registry stays as it was: where the log could be copied, the
 ///   file alone holds what both held, and else the next opening finds it, after a crash too, and
 ///   nothing else.
 /// - `words`: it ends as a text does.
-/// - `refused`, `unharmed`: as for [`declare_in_files`]; nothing is read.
+/// - `refused`, `turned_away`: as for [`declare_in_files`]; nothing is read.
 /// - `copied`: a log that is said to be copied into the database file is.
 pub fn statement_in_files<D: Disk + Drop, W: Write + Drop, E: Write>(
     alloc: Global,
@@ -111,6 +115,10 @@ pub fn statement_in_files<D: Disk + Drop, W: Write + Drop, E: Write>(
         → status_of result.0 ≡ 1 → get (state_held db).accounts account ≡ None }
     ensures silent { IsClean result.1 → status_of result.0 ≡ 1
         → Keeps (writer_contents W.contents writer.old) (writer_contents W.contents writer.new) }
+    ensures begun { IsClean result.1 → (db : Trees) → HoldsDatabase (image_of D.Disk files) db
+        → status_of result.0 ≡ 3
+        → Began (writer_contents W.contents writer.old) (writer_contents W.contents writer.new)
+        (IsStatement (state_held db) account) }
     ensures words { IfOpened result.1 (IsOfText result.0) }
     ensures refused { IfRefused result.1
         (λ _. IsUnopened result.0 (writer_contents W.contents writer.old)
@@ -118,7 +126,7 @@ pub fn statement_in_files<D: Disk + Drop, W: Write + Drop, E: Write>(
     ensures flushed { status_of result.0 ≡ 0 → writer_buffer writer.new ≡ [] }
     ensures kept { IsClean result.1 → (db : Trees) → HoldsDatabase (image_of D.Disk files) db
         → HasState (state_held db) result.1 }
-    ensures unharmed { IsClean result.1 → IfRefused result.1 (LeavesRegistry files) }
+    ensures turned_away { IsClean result.1 → IfRefused result.1 (IsTurnedAway files result.0) }
     ensures copied { HasSpareLog result.1 }
 {
     match open_registry(alloc, files, seed, line) {
@@ -148,6 +156,10 @@ pub fn audit_in_files<D: Disk + Drop, W: Write + Drop, E: Write>(
         (IsAuditText (state_held db)) }
     ensures silent { IsClean result.1 → status_of result.0 ≡ 1
         → Keeps (writer_contents W.contents writer.old) (writer_contents W.contents writer.new) }
+    ensures begun { IsClean result.1 → (db : Trees) → HoldsDatabase (image_of D.Disk files) db
+        → status_of result.0 ≡ 3
+        → Began (writer_contents W.contents writer.old) (writer_contents W.contents writer.new)
+        (IsAuditText (state_held db)) }
     ensures words { IfOpened result.1 (IsOfText result.0) }
     ensures refused { IfRefused result.1
         (λ _. IsUnopened result.0 (writer_contents W.contents writer.old)
@@ -155,7 +167,7 @@ pub fn audit_in_files<D: Disk + Drop, W: Write + Drop, E: Write>(
     ensures flushed { status_of result.0 ≡ 0 → writer_buffer writer.new ≡ [] }
     ensures kept { IsClean result.1 → (db : Trees) → HoldsDatabase (image_of D.Disk files) db
         → HasState (state_held db) result.1 }
-    ensures unharmed { IsClean result.1 → IfRefused result.1 (LeavesRegistry files) }
+    ensures turned_away { IsClean result.1 → IfRefused result.1 (IsTurnedAway files result.0) }
     ensures copied { HasSpareLog result.1 }
 {
     match open_registry(alloc, files, seed, line) {

@@ -1,2 +1,3 @@
+mod MakingLemmas
 mod MemoryLemmas
 mod WorkLemmas

@@ -9,8 +9,7 @@ use Rattle.goo_cli_ending.specs.Endings.{IsOfLines, status_of}
 use Rattle.goo_cli_ending.specs.Runs.{RunsInput}
 use Rattle.goo_desk_listener.specs.Clients.{Clients}
 use Rattle.goo_cli_registry.specs.Durable.{IsUnbegun}
-use Rattle.goo_cli_registry.specs.Openings.{IsOfOpening}
-use Rattle.goo_cli_files.specs.ServerEndings.{IsCounted}
+use Rattle.goo_cli_files.specs.ServerEndings.{IsCounted, IsOfServer}
 use Rattle.goo_cli_files.specs.ServesConnections.{IsAnnounced, ServesNew}
 use Rattle.goo_cli_jobs.specs.declared.memory_work.MemoryWork.{MemoryWork}
 use Rattle.goo_cli_jobs.specs.declared.memory_work.MemoryWork.TheVariants as work
@@ -21,17 +20,18 @@ asked_in_memory opening work.Run = Run (InMemory opening)
 asked_in_memory opening (work.Serve serving) = Serve (InMemory opening) serving
 
 module _ (s : State) (before after had has : Option (List ℕ)) (told : Ending) where
-  -- the lines of an input were answered from this state on, or no registry was made; the words of the one or of the other are told
+  -- the lines of an input were answered from this state on, or no registry was made; the words of lines are told
   pub record AreAnsweredInMemory : Type 0 where
     pub runs : RunsInput told s had has (λ _. ⊤) (λ _ _. ⊤) before after ⊎ IsUnbegun told had has before after
     pub sound : IsSound s
-    pub words : IsOfLines told ⊎ IsOfOpening told
+    pub words : IsOfLines told
 
   -- it was told at which port, as many connections were accepted as asked for, and a new registry served them
   pub record IsServedInMemory (from now : Clients) (port count : ℕ) : Type 0 where
     pub announced : status_of told ≡ 0 → IsAnnounced port now.at had has
     pub counted : IsCounted told from.accepted now.accepted count
     pub serves : ServesNew from now s
+    pub words : IsOfServer told
 
   -- what this work comes to, with the connections that were accepted meanwhile
   abbrev pub IsWorkedInMemory : Clients → Clients → MemoryWork → Type 0

@@ -7,20 +7,20 @@ use Rattle.goo_spec.specs.State.{State}
 use Rattle.goo_spec.specs.Sound.{IsSound}
 use Rattle.goo_desk_server.specs.Runs as served
 use Rattle.goo_files.specs.Texts.{IsStatement, IsAuditText}
-use Rattle.goo_files.specs.Writes.{Wrote}
+use Rattle.goo_files.specs.Writes.{Began, Wrote}
 use Rattle.goo_cli.specs.Asked.{Asked, InFile, Init, Run, Declare, Statement, Audit, Serve}
 use Rattle.goo_cli_ending.specs.declared.ending.Ending.{Ending}
 use Rattle.goo_cli_ending.specs.Endings.{IsOfLines, status_of}
-use Rattle.goo_cli_texts.specs.Endings.{IsOfImport}
+use Rattle.goo_cli_texts.specs.Endings.{IsOfImport, IsOfText}
 use Rattle.goo_cli_ending.specs.Runs.{RunsInput}
-use Rattle.goo_cli_registry.specs.Durable.{IfOpened, IsInFile, IsUnbegun, MayOpen}
+use Rattle.goo_cli_registry.specs.Durable.{IfOpened, IsInFile, IsUnbegun, IsUnopened, MayOpen}
 use Rattle.goo_cli_texts.specs.Declaring.{DeclaresRows}
 use Rattle.goo_cli_registry.specs.declared.closing.Left.{Left}
 use Rattle.goo_cli_registry.specs.Closings.{HoldsSome, IfRefused}
 use Rattle.goo_cli_registry.specs.Finds.{HasState}
 use Rattle.goo_desk_listener.specs.Clients.{Clients}
-use Rattle.goo_cli_files.specs.ServerEndings.{IsCounted}
-use Rattle.goo_cli_files.specs.ServesConnections.{IsAnnounced, ServesConnections}
+use Rattle.goo_cli_files.specs.ServerEndings.{IsCounted, IsOfServer}
+use Rattle.goo_cli_files.specs.ServesConnections.{IsAnnounced, IsUnserved, ServesConnections}
 use Rattle.goo_cli_files.specs.Durable.{IsLeftToFind}
 use Rattle.goo_cli_jobs.specs.MemoryWorks.{asked_in_memory}
 use Rattle.goo_cli_jobs.specs.declared.work.Job.{Job}
@@ -61,13 +61,19 @@ module _ {D : Type 0} {g : Ghosts D} (s : State) (before after had has : Option 
     pub shown : status_of told ≡ 0 → Wrote had has (IsStatement s account)
     pub unknown : status_of told ≡ 1 → get s.accounts account ≡ None
     pub silent : status_of told ≡ 1 → Keeps had has
+    pub begun : status_of told ≡ 3 → Began had has (IsStatement s account)
     pub kept : HasState s rest
+    pub words : IfOpened rest (IsOfText told)
+    pub refused : IfRefused rest (λ _. IsUnopened told had has)
 
   -- the audit is shown, and the registry stays as it was
   pub record IsAudited : Type 0 where
     pub shown : status_of told ≡ 0 → Wrote had has (IsAuditText s)
     pub silent : status_of told ≡ 1 → Keeps had has
+    pub begun : status_of told ≡ 3 → Began had has (IsAuditText s)
     pub kept : HasState s rest
+    pub words : IfOpened rest (IsOfText told)
+    pub refused : IfRefused rest (λ _. IsUnopened told had has)
 
   -- it was told at which port, as many connections were accepted as asked for, and what is promised holds of the requests that they left applied;
   -- what each was sent, and what the next opening finds of them
@@ -76,6 +82,8 @@ module _ {D : Type 0} {g : Ghosts D} (s : State) (before after had has : Option 
     pub counted : IsCounted told from.accepted now.accepted count
     pub promised : HoldsSome rest (served.KeepsPromise from.sends from.accepted now.accepted s)
     pub serves : IfOpened rest (ServesConnections from now s (IsLeftToFind rest))
+    pub words : IfOpened rest (IsOfServer told)
+    pub refused : IfRefused rest (λ _. IsUnserved told had has from now)
 
   -- what this work comes to, from the state that the files held, with the connections that were accepted meanwhile
   abbrev pub IsWorked : Clients → Clients → Work → Type 0

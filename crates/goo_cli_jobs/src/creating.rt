@@ -7,6 +7,7 @@ ghost use Rattle.goo_cli_ending.specs.Endings.{status_of};
 ghost use Rattle.goo_cli_registry.specs.Openings.{ending_of_opening, IsOfInit, ready_text};
 ghost use Rattle.goo_cli_registry.specs.Closings.{HasSpareLog, HoldState, IfWhole, IsClean, IsMade};
 ghost use Rattle.goo_cli_registry.specs.Closings.{Spares, SparesOrMakes, is_whole};
+ghost use Rattle.goo_cli_registry.specs.Refusals.{IsVacant, TellsMaking};
 
 use goo_cli::Opening;
 use goo_cli_ending::{Ending, Failure, NotDone};
@@ -46,7 +47,10 @@ fn create_registry<D: Disk + Drop>(
         (λ left. IfWhole left
         (λ files. HoldState D.Disk files
         (created opening.code opening.today opening.next_serial))) }
-    ensures words { IfErr result (λ e. (fault : OpenFault) × (e.0 ≡ ending_of_opening fault)) }
+    ensures words { IfErr result (λ e. (e.0 ≡ Ending.Denied NotDone.AlreadyThere)
+        ⊎ ((e.0 ≡ Ending.Failed Failure.Store) ⊎ (e.0 ≡ Ending.Failed Failure.Memory))) }
+    ensures vacant { IfOk result (λ left. IsVacant D.Disk files) }
+    ensures tells { IfErr result (λ e. IsClean e.1 → TellsMaking files e.0 e.1) }
     ensures held { IfOk result
         (λ left. IsClean left
         → SparesOrMakes files (created opening.code opening.today opening.next_serial) left) }
@@ -125,7 +129,9 @@ fn announce<D: Disk + Drop, W: Write + Drop>(
 /// - `unready`: nothing is written before the registry is there.
 /// - `there`: status 1 only where the database has tables already, of a registry or of another
 ///   program, and then no harm came to what the files held.
-/// - `words`: it ends as the making of a registry does, and never as a misused command line.
+/// - `words`, `tells`: it ends as the making of a registry does. It tells that one is there just where the
+///   database has a table, an index or a view, and a fault of the store where it has none, or where a
+///   call failed or the files hold no database.
 /// - `left`: whatever the status, no harm came to what the files held, or a new registry with these
 ///   three values is there.
 /// - `copied`: a log that is said to be copied into the database file is.
@@ -151,6 +157,7 @@ pub fn init_in_files<D: Disk + Drop, W: Write + Drop>(
     ensures there { status_of result.0 ≡ 1 → (result.0 ≡ Ending.Denied NotDone.AlreadyThere)
         × (IsClean result.1 → Spares files result.1) }
     ensures words { IsOfInit result.0 }
+    ensures tells { IsClean result.1 → TellsMaking files result.0 result.1 }
     ensures left { IsClean result.1
         → SparesOrMakes files (created opening.code opening.today opening.next_serial) result.1 }
     ensures copied { HasSpareLog result.1 }

@@ -3,7 +3,7 @@ ghost use Rattle.std.specs.Prelude.{◌≡◌, []};
 ghost use Rattle.std.specs.Io.Buffered.{writer_buffer, writer_contents};
 ghost use Rattle.goo_spec.specs.Created.{created};
 ghost use Rattle.goo_cli_ending.specs.Endings.{status_of};
-ghost use Rattle.goo_cli_files.specs.ServerEndings.{IsCounted};
+ghost use Rattle.goo_cli_files.specs.ServerEndings.{IsCounted, IsOfServer};
 ghost use Rattle.goo_cli_files.specs.ServesConnections.{IsAnnounced, ServesNew};
 
 use goo_cli::{Opening, Serving};
@@ -23,6 +23,7 @@ use std::io::{BufWriter, Write};
 ///   records failed at the last one; never more are.
 /// - `serves`: what each connection was sent, as of `serve` of `goo_desk_server`, by the registry
 ///   that the opening names; or none was accepted.
+/// - `words`: it ends as a server does.
 pub fn serve_in_memory<L: Listener, W: Write + Drop>(
     alloc: Global,
     opening: Opening,
@@ -30,6 +31,7 @@ pub fn serve_in_memory<L: Listener, W: Write + Drop>(
     listener: &mut L,
     writer: &mut BufWriter<W>,
 ) -> Ending
+    ensures words { IsOfServer result }
     ensures announced { status_of result ≡ 0
         → IsAnnounced serving.port (L.clients listener.new).at
         (writer_contents W.contents writer.old) (writer_contents W.contents writer.new) }

@@ -5,7 +5,8 @@ ghost use Rattle.sqlite.specs.Files.{image_of, HoldsDatabase};
 ghost use Rattle.sqlite.specs.Tree.{Trees};
 ghost use Rattle.goo_store_opening.specs.Versions.{state_held};
 ghost use Rattle.goo_cli.specs.Asked.{asked_by};
-ghost use Rattle.goo_cli_registry.specs.Closings.{HasSpareLog, IfRefused, IsClean, LeavesRegistry};
+ghost use Rattle.goo_cli_registry.specs.Closings.{HasSpareLog, IfRefused, IsClean};
+ghost use Rattle.goo_cli_registry.specs.Refusals.{IsTurnedAway};
 ghost use Rattle.goo_cli_jobs.specs.Works.{asked_for, IsWorked};
 
 use crate::memory_work::MemoryWork;
@@ -91,8 +92,9 @@ pub fn job_of<'a>(task: &Invocation<'a>) -> Job<'a>
 ///   audit's text, for lines and for rows what they come to, for connections what is promised of
 ///   their requests, what each was sent, and that as many were accepted as asked for. A statement and an audit leave
 ///   the registry as it was.
-/// - `unharmed`: where there is no registry, no harm came to what the files held, after a crash
-///   too: but for a registry of version 1, the same registry in version 2 may be found then.
+/// - `turned_away`: where there is no registry, the word for what the files hold is told, or a fault of
+///   the store or want of memory, and no harm came to what the files held, after a crash too: but for
+///   a registry of version 1, the same registry in version 2 may be found then.
 /// - `copied`: a log that is said to be copied into the database file is.
 pub fn work_in_files<D: Disk + Drop, L: Listener, R: Read, W: Write + Drop, T: Write, E: Write>(
     alloc: Global,
@@ -111,7 +113,7 @@ pub fn work_in_files<D: Disk + Drop, L: Listener, R: Read, W: Write + Drop, T: W
         → IsWorked (state_held db) (R.remaining reader.old) (R.remaining reader.new)
         (writer_contents W.contents writer.old) (writer_contents W.contents writer.new) result.0
         result.1 (L.clients listener.old) (L.clients listener.new) work.now }
-    ensures unharmed { IsClean result.1 → IfRefused result.1 (LeavesRegistry files) }
+    ensures turned_away { IsClean result.1 → IfRefused result.1 (IsTurnedAway files result.0) }
     ensures copied { HasSpareLog result.1 }
 {
     match work {

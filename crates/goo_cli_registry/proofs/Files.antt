@@ -1,5 +1,5 @@
 -- What files that were opened and closed tell of the database.
-use Rattle.std.proofs.Common.{◌≡◌, ◌⊎◌, ◌≤◌, ◌∙◌, inl, inr, refl, sym, ap, subst, cond, ℕ, List, Option, Some, arith, Bool, true, false}
+use Rattle.std.proofs.Common.{◌≡◌, ◌⊎◌, ◌≤◌, ◌∙◌, inl, inr, refl, sym, ap, subst, cond, ℕ, List, Option, Some, Result, Ok, Err, arith, Bool, true, false}
 use Rattle.std.specs.Prelude.{◌==◌, ◌||◌, IsTrue}
 use Rattle.sqlite_disk.specs.declared.Disk.{Ghosts}
 use Rattle.sqlite_disk.specs.declared.Files.{Files}
@@ -45,10 +45,12 @@ use Rattle.goo_cli_ending.specs.declared.ending.Ending.{Ending}
 use Rattle.goo_cli_ending.specs.declared.ending.Ending.TheVariants.{Denied, Failed}
 use Rattle.goo_cli_ending.specs.declared.ending.Failure.{Failure}
 use Rattle.goo_cli_ending.specs.declared.ending.Failure.TheVariants as failure
-use Rattle.goo_cli_ending.specs.Endings.{failure_of_desk, status_of}
+use Rattle.goo_cli_ending.specs.Endings.{failure_of_desk}
 use Rattle.goo_types.specs.declared.fault.Fault.{Fault}
 use Rattle.goo_types.specs.declared.fault.Fault.TheVariants as desk
-use Rattle.goo_cli_registry.specs.Openings.{ending_of_opening, failure_of_opening, IsBlamed, IsOfInit, IsOfOpening, IsRun}
+use Rattle.goo_cli_ending.specs.Endings.{IsOfLines}
+use Rattle.goo_cli_registry.specs.Openings.{ending_of_opening, failure_of_opening, IsBlamed, IsFault, IsOfOpening, IsRun}
+use Rattle.goo_cli_registry.specs.Refusals.{TellsWhy}
 use Rattle.goo_cli_registry.specs.Closings.{HoldRegistry, HoldState, IfRefused, IfWhole, IsClean, IsKept, IsThere, LeavesOr, LeavesRegistry, SparesOrMakes, WasRenewed}
 use Rattle.goo_cli_registry.specs.declared.closing.Left.{Left}
 use Rattle.goo_cli_registry.specs.declared.closing.Left.TheVariants as left
@@ -103,19 +105,37 @@ clean_before a b rises clean = omega (arith, rises, honest b clean)
 pub not_both : desk.Memory ≡ desk.Store → ⊥
 not_both e = cc e
 
--- want of memory and a fault of the files are words of opening
-pub word_of_desk : (fault : Fault) (told : Failure) → told ≡ failure_of_desk fault → (word : OpenFault) × (Failed told ≡ ending_of_opening word)
-word_of_desk desk.Store told e = (opening.Store, ap Failed e)
-word_of_desk desk.Memory told e = (opening.Memory, ap Failed e)
-
 -- a refusal from outside is told as one
-pub outside_failure : (fault : OpenFault) (told : Failure) → told ≡ failure_of_opening fault → IsOutside fault → (told ≡ failure.Store) ⊎ (told ≡ failure.Memory)
+pub outside_failure : (fault : OpenFault) (told : Failure) → told ≡ failure_of_opening fault → IsOutside fault → IsFault told
 outside_failure fault told is (inl store) = inl (is ∙ ap failure_of_opening store)
 outside_failure fault told is (inr memory) = inr (is ∙ ap failure_of_opening memory)
 
-pub fault_failure : (fault : Fault) (told : Failure) → told ≡ failure_of_desk fault → (told ≡ failure.Store) ⊎ (told ≡ failure.Memory)
+pub fault_failure : (fault : Fault) (told : Failure) → told ≡ failure_of_desk fault → IsFault told
 fault_failure desk.Store told is = inl is
 fault_failure desk.Memory told is = inr is
+
+-- a registry that was not made in an empty database
+pub unmade_failure : (fault : OpenFault) (told : Failure) → told ≡ failure_of_opening fault → (fault ≡ opening.AlreadyThere) ⊎ IsOutside fault → IsFault told
+unmade_failure fault told is (inl there) = inl (is ∙ ap failure_of_opening there)
+unmade_failure fault told is (inr outside) = outside_failure fault told is outside
+
+pub lines_of_fault : (told : Failure) → IsFault told → IsOfLines (Failed told)
+lines_of_fault told (inl is) = subst (λ (f : Failure). IsOfLines (Failed f)) (sym is) tt
+lines_of_fault told (inr is) = subst (λ (f : Failure). IsOfLines (Failed f)) (sym is) tt
+
+pub opening_of_fault : (told : Failure) → IsFault told → IsOfOpening (Failed told)
+opening_of_fault told (inl is) = subst (λ (f : Failure). IsOfOpening (Failed f)) (sym is) tt
+opening_of_fault told (inr is) = subst (λ (f : Failure). IsOfOpening (Failed f)) (sym is) tt
+
+-- files that could not be opened as a database
+pub why_unread : {D : Type 0} {g : Ghosts D} (files : Files D) (left : Leftover D g) (fault : Fault) (told : Failure) → told ≡ failure_of_desk fault → (fault ≡ desk.Store → IsBlamed files left) → TellsWhy files left told
+why_unread files left desk.Store told is blamed = inr (inl (is, blamed refl))
+why_unread files left desk.Memory told is blamed = inr (inr is)
+
+-- the word that is handed back
+abbrev pub fault_in : {T A : Type 0} → OpenFault → Result T (A × OpenFault) → OpenFault
+fault_in otherwise (Ok x) = otherwise
+fault_in otherwise (Err e) = e.1
 
 -- a state that files hold, told otherwise
 pub whole_as : {D : Type 0} {g : Ghosts D} (rest : Left D g) (seen : State) (s t : registry.State) → (IsClean rest → HasCleanDisk seen) → (HasCleanDisk seen → s ≡ t) → IfWhole rest (λ files. HoldState g files s) → IfWhole rest (λ files. HoldState g files t)
@@ -209,30 +229,11 @@ not_refused (left.Whole files) holds none = tt
 not_refused (left.Refused rest) holds none = absurd none
 not_refused (left.Parts rest) holds none = tt
 
-version_init : (b : Bool) (version : ℕ) → IsOfInit (Failed (cond b failure.Damaged (failure.Version version)))
-version_init true version = tt
-version_init false version = tt
-
--- the words of a registry that was not made
-pub of_init : (fault : OpenFault) (told : Ending) → told ≡ ending_of_opening fault → IsOfInit told
-of_init opening.AlreadyThere told is = subst (λ (e : Ending). IsOfInit e) (sym is) tt
-of_init opening.Memory told is = subst (λ (e : Ending). IsOfInit e) (sym is) tt
-of_init opening.NotARegistry told is = subst (λ (e : Ending). IsOfInit e) (sym is) tt
-of_init (opening.Version version) told is = subst (λ (e : Ending). IsOfInit e) (sym is) (version_init ((version == 1) || (version == 2)) version)
-of_init opening.Damaged told is = subst (λ (e : Ending). IsOfInit e) (sym is) tt
-of_init opening.Store told is = subst (λ (e : Ending). IsOfInit e) (sym is) tt
-
-told_as : (fault : OpenFault) (told : Ending) → told ≡ ending_of_opening fault → status_of told ≡ status_of (ending_of_opening fault)
-told_as fault told is = ap status_of is
-
--- status 1 tells that a registry is there
-pub denied : (fault : OpenFault) (told : Ending) → told ≡ ending_of_opening fault → status_of told ≡ 1 → told ≡ Denied AlreadyThere
-denied opening.AlreadyThere told is one = is
-denied opening.Memory told is one = let three : status_of told ≡ 3 = told_as opening.Memory told is in absurd (omega (arith, three, one))
-denied opening.NotARegistry told is one = let three : status_of told ≡ 3 = told_as opening.NotARegistry told is in absurd (omega (arith, three, one))
-denied (opening.Version version) told is one = let three : status_of told ≡ 3 = told_as (opening.Version version) told is in absurd (omega (arith, three, one))
-denied opening.Damaged told is one = let three : status_of told ≡ 3 = told_as opening.Damaged told is in absurd (omega (arith, three, one))
-denied opening.Store told is one = let three : status_of told ≡ 3 = told_as opening.Store told is in absurd (omega (arith, three, one))
+-- a registry that was not made: one is there, or a fault of the store or want of memory kept it from being made
+pub unmade : (fault : OpenFault) (told : Ending) → told ≡ ending_of_opening fault → (fault ≡ opening.AlreadyThere) ⊎ IsOutside fault → (told ≡ Denied AlreadyThere) ⊎ ((told ≡ Failed failure.Store) ⊎ (told ≡ Failed failure.Memory))
+unmade fault told is (inl there) = inl (is ∙ ap ending_of_opening there)
+unmade fault told is (inr (inl store)) = inr (inl (is ∙ ap ending_of_opening store))
+unmade fault told is (inr (inr memory)) = inr (inr (is ∙ ap ending_of_opening memory))
 
 -- and it tells nothing else
 pub only_there : (fault : OpenFault) → ending_of_opening fault ≡ Denied AlreadyThere → fault ≡ opening.AlreadyThere

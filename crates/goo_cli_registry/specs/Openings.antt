@@ -62,6 +62,10 @@ IsOfOpening (ending.Failed failure.NotARegistry) = Unit {0}
 IsOfOpening (ending.Failed (failure.Version version)) = Unit {0}
 IsOfOpening (ending.Failed failure.Damaged) = Unit {0}
 
+-- a fault of the store, or want of memory
+abbrev pub IsFault : Failure → Type 0
+IsFault told = (told ≡ failure.Store) ⊎ (told ≡ failure.Memory)
+
 -- how the making of a registry may end
 abbrev pub IsOfInit : Ending → Type 0
 IsOfInit ending.Done = Unit {0}
@@ -75,9 +79,9 @@ IsOfInit (ending.Failed failure.Read) = ⊥
 IsOfInit (ending.Failed failure.Write) = Unit {0}
 IsOfInit (ending.Failed failure.Store) = Unit {0}
 IsOfInit (ending.Failed failure.Memory) = Unit {0}
-IsOfInit (ending.Failed failure.NotARegistry) = Unit {0}
-IsOfInit (ending.Failed (failure.Version version)) = Unit {0}
-IsOfInit (ending.Failed failure.Damaged) = Unit {0}
+IsOfInit (ending.Failed failure.NotARegistry) = ⊥
+IsOfInit (ending.Failed (failure.Version version)) = ⊥
+IsOfInit (ending.Failed failure.Damaged) = ⊥
 
 -- what is told only of lines that were answered by a registry, or of the streams that they came and went by
 abbrev pub IsRun : Ending → Type 0

@@ -4,8 +4,7 @@ ghost use Rattle.sqlite.specs.Files.{file_state};
 ghost use Rattle.sqlite.specs.Held.{IsNew};
 ghost use Rattle.sqlite.specs.State.{HasCleanDisk};
 ghost use Rattle.goo_tables_rows.specs.Met.{IsInKeyOrder};
-ghost use Rattle.goo_cli_ending.specs.declared.ending.Ending.TheVariants.{Failed};
-ghost use Rattle.goo_cli_registry.specs.Openings.{IsOfOpening};
+ghost use Rattle.goo_cli_registry.specs.Openings.{IsFault};
 
 use crate::first_page::make_first_page;
 use crate::memory_file::MemoryFile;
@@ -39,7 +38,7 @@ pub fn open_in_memory(alloc: Global) -> Result<Connection<FileStore<MemoryFile>>
     ensures fresh { IfOk result IsNew }
     ensures ordered { IfOk result
         (λ conn. HasCleanDisk (file_state conn) → IsInKeyOrder (file_state conn).now) }
-    ensures word { IfErr result (λ failure. IsOfOpening (Failed failure)) }
+    ensures word { IfErr result IsFault }
 {
     let files = make_files(alloc).map_err(|_| Failure::Memory)?;
     match open_database(alloc, files, Options::new(SALT)) {

@@ -1,22 +1,25 @@
 //! A registry opened, over a database or over files.
-ghost use Rattle.std.specs.Prelude.{◌≡◌, ◌≢◌, ◌⊎◌, false, IsTrue, IfOk, IfErr, Err};
+ghost use Rattle.std.specs.Prelude.{◌≡◌, ◌≢◌, ◌⊎◌, false, IsTrue, IfOk, IfErr, IsErrAnd, Err};
 ghost use Rattle.sqlite.specs.Files.{file_state, image_of, Finds, HoldsDatabase, IsCleanLeft};
 ghost use Rattle.sqlite.specs.Files.{IsOpened, LeavesFiles};
 ghost use Rattle.sqlite.specs.Held.{IsNew, state as view};
 ghost use Rattle.sqlite.specs.State.{HasCleanDisk};
 ghost use Rattle.sqlite.specs.Tree.{Trees};
+ghost use Rattle.goo_tables_rows.specs.Columns.{no_schema};
 ghost use Rattle.goo_tables_rows.specs.Met.{IsInKeyOrder};
 ghost use Rattle.goo_store.specs.Seen.{seen_by};
 ghost use Rattle.goo_store_opening.specs.Versions.{state_held};
 ghost use Rattle.goo_store_judge.specs.Moments.{OpensAsEither};
+ghost use Rattle.goo_store_open.specs.Found.{IsOutside};
 ghost use Rattle.goo_ranges_rows.specs.Rows.{AreRowsOf};
 ghost use Rattle.goo_core_shelf.specs.Shelf.{IsReady};
 ghost use Rattle.goo_spec.specs.Created.{created};
 ghost use Rattle.goo_spec.specs.Sound.{IsSound};
 ghost use Rattle.goo_spec.specs.State.{State};
 ghost use Rattle.goo_cli_registry.specs.Closings.{LeavesRegistry};
-ghost use Rattle.goo_cli_registry.specs.Openings.{failure_of_opening, IsBlamed, IsOfOpening};
-ghost use Rattle.goo_cli_registry.specs.Openings.{MayBegin};
+ghost use Rattle.goo_cli_registry.specs.Openings.{failure_of_opening, IsBlamed, IsFault};
+ghost use Rattle.goo_cli_registry.specs.Openings.{IsOfOpening, MayBegin};
+ghost use Rattle.goo_cli_registry.specs.Refusals.{TellsWhy};
 ghost use Rattle.goo_cli_ending.specs.declared.ending.Ending.TheVariants.{Failed};
 
 use crate::renewal_line::RenewalLine;
@@ -114,6 +117,11 @@ pub fn begin<S: Alter>(
     ensures ready { IfOk result (λ shelf. IsReady (seen_by shelf)) }
     ensures outside { IfErr result (λ e. e.0.in_transaction ≡ false) }
     ensures there { IfErr result (λ e. e.1 ≡ OpenFault.AlreadyThere → e.0 ≡ conn) }
+    ensures taken { (view S.Store conn).now.schema ≢ no_schema
+        → IsErrAnd result (λ e. e.1 ≡ OpenFault.AlreadyThere) }
+    ensures untaken { (view S.Store conn).now.schema ≡ no_schema
+        → IfErr result (λ e. e.1 ≢ OpenFault.AlreadyThere) }
+    ensures words { IfErr result (λ e. (e.1 ≡ OpenFault.AlreadyThere) ⊎ IsOutside e.1) }
     ensures clean { IfErr result
         (λ e. HasCleanDisk (view S.Store e.0) → HasCleanDisk (view S.Store conn)) }
     ensures crash { IfErr result
@@ -142,7 +150,7 @@ pub fn begin<S: Alter>(
 ///
 /// `again`, `never_foreign`: files that hold what a crash left of a registry are opened with the
 /// state that a shelf says a crash finds, one of two at most, or refused for a fault of the store
-/// or want of memory: never as another word on them.
+/// or want of memory: never as another word on them. `why`: what the files hold decides the word.
 pub fn open_registry<D: Disk + Drop, T: Write>(
     alloc: Global,
     files: Files<D>,
@@ -167,8 +175,9 @@ pub fn open_registry<D: Disk + Drop, T: Write>(
         → ((seen_by shelf).state ≡ s) ⊎ ((seen_by shelf).state ≡ t)) }
     ensures never_foreign { IfErr result
         (λ e. IsCleanLeft e.1 → (db : Trees) → HoldsDatabase (image_of D.Disk files) db
-        → (s t : State) → OpensAsEither db s t → (e.0 ≡ Failure.Store) ⊎ (e.0 ≡ Failure.Memory)) }
+        → (s t : State) → OpensAsEither db s t → IsFault e.0) }
     ensures word { IfErr result (λ e. IsOfOpening (Failed e.0)) }
+    ensures why { IfErr result (λ e. IsCleanLeft e.1 → TellsWhy files e.1 e.0) }
     ensures unharmed { IfErr result (λ e. IsCleanLeft e.1 → LeavesRegistry files e.1) }
 {
     match open_database(alloc, files, file_options(seed)) {

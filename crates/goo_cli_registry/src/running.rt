@@ -13,8 +13,10 @@ ghost use Rattle.goo_registry.specs.Desks.{seen_of};
 ghost use Rattle.goo_cli_ending.specs.Endings.{status_of, IsOfLines, IsToldOf};
 ghost use Rattle.goo_cli_ending.specs.Runs.{HasState, MayFind, RunsInput};
 ghost use Rattle.goo_cli_registry.specs.Durable.{IfOpened, IsInFile, IsUnbegun, MayOpen};
-ghost use Rattle.goo_cli_registry.specs.Openings.{IsOfOpening, IsRun};
-ghost use Rattle.goo_cli_registry.specs.Closings.{HasSpareLog, IfRefused, IsClean, LeavesRegistry};
+ghost use Rattle.goo_cli_registry.specs.Finds.{Begins};
+ghost use Rattle.goo_cli_registry.specs.Openings.{IsRun};
+ghost use Rattle.goo_cli_registry.specs.Closings.{HasSpareLog, IfRefused, IsClean};
+ghost use Rattle.goo_cli_registry.specs.Refusals.{IsTurnedAway};
 
 use crate::closing::{Left, close_registry};
 use crate::in_memory::open_in_memory;
@@ -70,7 +72,7 @@ pub fn answer_by_tables<S: Alter, R: Read, W: Write + Drop>(
         (λ _ _. ⊤) (R.remaining reader.old) (R.remaining reader.new)
         ⊎ IsUnbegun result.0 (writer_contents W.contents writer.old)
         (writer_contents W.contents writer.new) (R.remaining reader.old) (R.remaining reader.new) }
-    ensures words { IsOfLines result.0 ⊎ IsOfOpening result.0 }
+    ensures words { IsOfLines result.0 }
     ensures flushed { status_of result.0 < 2 → writer_buffer writer.new ≡ [] }
     ensures run { IsRun result.0 → IsWell (view S.Store result.1) }
 {
@@ -90,7 +92,7 @@ pub fn answer_by_tables<S: Alter, R: Read, W: Write + Drop>(
 ///   ([`answer_input`]); or no registry could be made, for a fault that is told, and nothing was
 ///   read or written.
 /// - `sound`: the new registry is sound, so that what a registry promises holds of these lines.
-/// - `words`: it ends as a run of lines does, or as an opening that failed.
+/// - `words`: it ends as a run of lines does.
 /// - `flushed`: with status 0 and 1 nothing is left in the writer's buffer.
 pub fn run_in_memory<R: Read, W: Write + Drop>(
     alloc: Global,
@@ -104,7 +106,7 @@ pub fn run_in_memory<R: Read, W: Write + Drop>(
         ⊎ IsUnbegun result (writer_contents W.contents writer.old)
         (writer_contents W.contents writer.new) (R.remaining reader.old) (R.remaining reader.new) }
     ensures sound { IsSound (created opening.code opening.today opening.next_serial) }
-    ensures words { IsOfLines result ⊎ IsOfOpening result }
+    ensures words { IsOfLines result }
     ensures flushed { status_of result < 2 → writer_buffer writer.new ≡ [] }
 {
     let _code = opening.code.get();
@@ -125,11 +127,14 @@ pub fn run_in_memory<R: Read, W: Write + Drop>(
 ///   ([`answer_input`]), from the state that the files held. The database file alone holds what
 ///   these lines come to, after a crash too, where the log could be copied into it; else the next
 ///   opening finds that, or one line more at most.
-/// - `sound`: what the files held is sound, so that what a registry promises holds of these lines.
+/// - `begins`: what the files held is sound, so that what a registry promises holds of these lines. Where
+///   they hold what a crash left of a registry, it is the state that the crash is said to leave, one
+///   of two at most.
 /// - `words`: it ends as a run of lines does.
-/// - `refused`, `unharmed`: where there is no registry to run, the fault is told, nothing was read or
-///   written, and no harm came to what the files held, after a crash too: but for a registry of
-///   version 1, the same registry in version 2 may be found then.
+/// - `refused`, `turned_away`: where there is no registry to run, the word for what the files hold is
+///   told, or a fault of the store or want of memory; nothing was read or written, and no harm came to
+///   what the files held, after a crash too: but for a registry of version 1, the same registry in
+///   version 2 may be found then.
 /// - `flushed`: with status 0 and 1 nothing is left in the writer's buffer.
 /// - `copied`: a log that is said to be copied into the database file is.
 pub fn run_in_files<D: Disk + Drop, R: Read, W: Write + Drop, T: Write>(
@@ -146,14 +151,14 @@ pub fn run_in_files<D: Disk + Drop, R: Read, W: Write + Drop, T: Write>(
         → IfOpened result.1 (RunsInput result.0 (state_held db)
         (writer_contents W.contents writer.old) (writer_contents W.contents writer.new)
         (IsInFile result.1) (MayOpen result.1) (R.remaining reader.old) (R.remaining reader.new)) }
-    ensures sound { IsClean result.1 → (db : Trees) → HoldsDatabase (image_of D.Disk files) db
-        → IfOpened result.1 (IsSound (state_held db)) }
+    ensures begins { IsClean result.1 → (db : Trees) → HoldsDatabase (image_of D.Disk files) db
+        → IfOpened result.1 (Begins db) }
     ensures words { IfOpened result.1 (IsOfLines result.0) }
     ensures refused { IfRefused result.1
         (λ _. IsUnbegun result.0 (writer_contents W.contents writer.old)
         (writer_contents W.contents writer.new) (R.remaining reader.old)
         (R.remaining reader.new)) }
-    ensures unharmed { IsClean result.1 → IfRefused result.1 (LeavesRegistry files) }
+    ensures turned_away { IsClean result.1 → IfRefused result.1 (IsTurnedAway files result.0) }
     ensures flushed { status_of result.0 < 2 → writer_buffer writer.new ≡ [] }
     ensures copied { HasSpareLog result.1 }
 {

@@ -1,5 +1,5 @@
 -- What an ending tells of a text, and of an import.
-use Rattle.std.proofs.Common.{arith, refl, ◌≡◌, ◌∙◌, ℕ, List, Bool, true, false, true≢false, Result, Ok, Err, Option, Some, None, is_ok, OnOk, IsTrue}
+use Rattle.std.proofs.Common.{arith, inl, inr, refl, ◌≡◌, ◌∙◌, ℕ, List, Bool, true, false, true≢false, Result, Ok, Err, Option, Some, None, is_ok, OnOk, IsTrue}
 use Rattle.std.specs.Io.KnownBytes.{Appends, Keeps}
 use Rattle.goo_core_shelf.specs.Shelf.{Moment}
 use Rattle.goo_spec.specs.State.{Account}
@@ -8,7 +8,8 @@ use Rattle.goo_core_reads.specs.declared.denial.Denial.{Denial}
 use Rattle.goo_registry.specs.Reads.{account_denial}
 use Rattle.goo_files.specs.declared.text_fault.ShowFault.{ShowFault}
 use Rattle.goo_files.specs.declared.text_fault.ShowFault.TheVariants as text
-use Rattle.goo_files.specs.Writes.{Writes, Wrote}
+use Rattle.goo_files.specs.Writes.{Began, Writes, Wrote}
+use Rattle.goo_files_streams.proofs.AppendsFacts.{prefix-whole}
 use Rattle.goo_files_import.specs.declared.cause.Cause.{Cause}
 use Rattle.goo_files_import.specs.declared.cause.Cause.TheVariants as cause
 use Rattle.goo_cli_ending.specs.Endings.{status_of}
@@ -47,6 +48,23 @@ module _ (old new : Moment) (before mid after : Option (List ℕ)) (denial : Opt
   silent (Err text.Write) out writes keeps clean status = absurd (omega (arith, status))
   silent (Err text.Store) out writes keeps clean status = absurd (omega (arith, status))
   silent (Err text.Memory) out writes keeps clean status = absurd (omega (arith, status))
+
+-- a beginning that was written stands, after a flush too
+began_on : (before mid after : Option (List ℕ)) (right : List ℕ → Type 0) → Began before mid (λ given. (x : Unit {0}) × right given) → Keeps mid after → Began before after right
+began_on before mid after right (inl same) keeps = inl (keeps_on before mid after same keeps)
+began_on before mid after right (inr (given, is, (count, appended))) keeps = inr (given, is.1, (count, kept before mid after _ appended keeps))
+
+module _ (old new : Moment) (before mid after : Option (List ℕ)) (denial : Option Denial) (right : List ℕ → Type 0) where
+  pub begun : (result : Result (Unit {0}) ShowFault) (out : Bool) → Writes old new before mid result denial (λ u given. right given) → Keeps mid after → new.corruptions ≡ 0 → old.defects ≡ 0 → status_of (ending_of_text result out) ≡ 3 → Began before after right
+  begun (Ok done) true writes keeps clean sure status = absurd (omega (arith, status))
+  begun (Ok done) false writes keeps clean sure status =
+      let text = writes.whole (writes.looks.works clean) in
+      inr (text.0, text.1, prefix-whole before after text.0 (kept before mid after text.0 text.2 keeps))
+  begun (Err text.NotAllowed) out writes keeps clean sure status = absurd (omega (arith, status))
+  begun (Err text.Unknown) out writes keeps clean sure status = absurd (omega (arith, status))
+  begun (Err text.Write) out writes keeps clean sure status = began_on before mid after right (writes.begun clean sure tt) keeps
+  begun (Err text.Store) out writes keeps clean sure status = began_on before mid after right (writes.begun clean sure tt) keeps
+  begun (Err text.Memory) out writes keeps clean sure status = began_on before mid after right (writes.begun clean sure tt) keeps
 
 absent : (caller : List ℕ) → caller ≡ issuer → (row : Option Account) (why : Denial) → account_denial caller row ≡ Some why → row ≡ None
 absent caller same None why e = refl

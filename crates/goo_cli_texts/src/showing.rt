@@ -5,7 +5,7 @@ ghost use Rattle.std.specs.Io.Buffered.{writer_buffer, writer_contents};
 ghost use Rattle.std.specs.Io.KnownBytes.{Keeps};
 ghost use Rattle.goo_core_shelf.specs.Shelf.{IsSafe};
 ghost use Rattle.goo_files.specs.Texts.{IsStatement, IsAuditText};
-ghost use Rattle.goo_files.specs.Writes.{Wrote};
+ghost use Rattle.goo_files.specs.Writes.{Began, Wrote};
 ghost use Rattle.goo_cli_ending.specs.Endings.{status_of};
 ghost use Rattle.goo_cli_texts.specs.Endings.{ending_of_text, IsOfText};
 
@@ -37,6 +37,7 @@ fn ending_of(written: Result<(), ShowFault>, flushed: bool) -> Ending
 /// - `shown`, `flushed`: status 0 only where the whole statement is written after what the writer
 ///   had, and nothing is left in its buffer.
 /// - `unknown`: status 1 only where there is no such account, and nothing is written then.
+/// - `begun`: what is written with status 3 is nothing, or a beginning of the statement.
 /// - `words`: it ends as a text does.
 /// - `rests`: the registry stays as it is.
 /// - `safe`: a crash that follows finds it as it was, and finds nothing else, whatever the status.
@@ -54,6 +55,10 @@ pub fn show_statement<S: Shelf, W: Write + Drop>(
         → get (S.seen registry.old.shelf).state.accounts account ≡ None }
     ensures silent { (S.seen registry.new.shelf).corruptions ≡ 0 → status_of result ≡ 1
         → Keeps (writer_contents W.contents writer.old) (writer_contents W.contents writer.new) }
+    ensures begun { (S.seen registry.new.shelf).corruptions ≡ 0
+        → (S.seen registry.old.shelf).defects ≡ 0 → status_of result ≡ 3
+        → Began (writer_contents W.contents writer.old) (writer_contents W.contents writer.new)
+        (IsStatement (S.seen registry.old.shelf).state account) }
     ensures words { IsOfText result }
     ensures flushed { status_of result ≡ 0 → writer_buffer writer.new ≡ [] }
     ensures rests { (S.seen registry.new.shelf).defects ≡ 0
@@ -74,6 +79,7 @@ pub fn show_statement<S: Shelf, W: Write + Drop>(
 /// - `shown`, `flushed`: status 0 only where the whole audit is written after what the writer had,
 ///   and nothing is left in its buffer.
 /// - `silent`: with status 1 nothing is written.
+/// - `begun`: what is written with status 3 is nothing, or a beginning of the audit.
 /// - `words`: it ends as a text does.
 /// - `rests`: the registry stays as it is.
 /// - `safe`: a crash that follows finds it as it was, and finds nothing else, whatever the status.
@@ -89,6 +95,10 @@ pub fn show_audit<S: Shelf, W: Write + Drop>(
         (IsAuditText (S.seen registry.old.shelf).state) }
     ensures silent { (S.seen registry.new.shelf).corruptions ≡ 0 → status_of result ≡ 1
         → Keeps (writer_contents W.contents writer.old) (writer_contents W.contents writer.new) }
+    ensures begun { (S.seen registry.new.shelf).corruptions ≡ 0
+        → (S.seen registry.old.shelf).defects ≡ 0 → status_of result ≡ 3
+        → Began (writer_contents W.contents writer.old) (writer_contents W.contents writer.new)
+        (IsAuditText (S.seen registry.old.shelf).state) }
     ensures words { IsOfText result }
     ensures flushed { status_of result ≡ 0 → writer_buffer writer.new ≡ [] }
     ensures rests { (S.seen registry.new.shelf).defects ≡ 0

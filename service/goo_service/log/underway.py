@@ -26,7 +26,7 @@ from goo_service.log.registry import APPLY
 from goo_service.log.registry import PART
 from goo_service.log.registry import Answer
 
-ANSWERS = 20
+ANSWERS = 60
 """Seconds for the answer whether there is room."""
 MOST_ANSWER = 64 << 10
 """Bytes of what a rehearsal says."""

@@ -49,6 +49,8 @@ if (same) dispatchEvent(new HashChangeEvent('hashchange')); else location.hash =
 """The way to another page as a link has it. What stood there goes first."""
 CELLS = """return [...document.querySelectorAll(arguments[0])].map(row =>
   [...row.querySelectorAll('td')].map(cell => cell.innerText.replace(/\\s+/g, ' ').trim()))"""
+COLUMN = """return [...document.querySelectorAll('main tbody td')]
+  .filter(cell => cell.dataset.name === arguments[0]).map(cell => cell.innerText.trim())"""
 SET_DAY = """arguments[0].value = arguments[1];
 arguments[0].dispatchEvent(new Event('change'))"""
 ASYNC = """const words = [...arguments], done = words.pop();
@@ -206,6 +208,11 @@ class Browser:
         rows: list[list[str]] = self.driver.execute_script(CELLS, css)
         return rows
 
+    def column(self, name: str) -> list[str]:
+        """The texts of a column by its heading, all read at one moment."""
+        texts: list[str] = self.run(COLUMN, name)
+        return texts
+
     def cells_when(self, holds: Callable[[list[list[str]]], bool]) -> list[list[str]]:
         """The same once they are as wanted."""
         rows: list[list[str]] = self.wait(self.cells, holds)
@@ -250,6 +257,11 @@ class Browser:
 
     def type(self, css: str, *words: str) -> None:
         self.see(css).send_keys(*words)
+
+    def filter(self, name: str, *words: str) -> None:
+        """Types into a filter of a list, or chooses there; what holds it is opened first."""
+        self.run("document.querySelectorAll('.filters details').forEach(e => { e.open = true; })")
+        self.type(f'.filters [name={name}]', *words)
 
     def keys(self, *keys: str) -> None:
         """Keys for whatever has the focus."""

@@ -32,7 +32,7 @@ def at(page: Browser, address: str) -> str:
 def test_each_address_ends_in_a_page(house: House, visit: Visit) -> None:
     stage.open_holder(house, 'SUN')
     page = visit(house, 'anna', 'toString')
-    assert page.text('h1') == 'Your accounts'
+    assert page.text('h1') == 'Start'
     for address in ODD:
         assert at(page, address)
 

@@ -69,7 +69,7 @@ def test_a_selection_whose_answer_is_lost_is_done_once(house: House, visit: Visi
         page.click('dialog[open] button.main')
         assert 'kept' in page.text('main .result.kept', 'No answer')
         page.look('selection-lost')
-        page.load('', 'table')
+        page.load('', '.part')
         told = page.text('#unanswered li', f'To account {world.other}')
         count = re.search(r'(\d+) requests, sent as one', told)
         assert count and int(count[1]) > 3

@@ -62,7 +62,7 @@ def test_the_holdings_have_the_sum_of_the_statement(house: House, world: stage.W
 def test_a_filter_leaves_its_own_and_stands_in_the_address(house: House, world: stage.World,
                                                            visit: Visit) -> None:
     page = visit(house, 'anna', f'holdings/{world.account}', '.summed')
-    page.type('.filters [name=tech]', 'Wind')
+    page.filter('tech', 'Wind')
     page.see('.summed b', f'{of_tech(house, world.account, "T020001"):,} certificates')
     assert len(page.cells()) == 6 and 'tech=T020001' in page.driver.current_url
 
@@ -72,13 +72,13 @@ def test_a_head_sorts_and_turns_round(house: House, world: stage.World, visit: V
     for arrow, turned in (('↑', False), ('↓', True)):
         page.click('th.right button.head', 'Count')
         page.see('th.right button.head', f'Count {arrow}')
-        counts = [number(row[-2]) for row in page.cells()]
+        counts = [number(text) for text in page.column('Count')]
         assert counts == sorted(counts, reverse=turned) and len(set(counts)) == 18
 
 
 def test_subtotals_lead_to_their_lots(house: House, world: stage.World, visit: Visit) -> None:
     page = visit(house, 'anna', f'holdings/{world.account}', '.summed')
-    page.type('.filters [name=by]', 'technology')
+    page.filter('by', 'technology')
     rows = page.cells_when(lambda rows: bool(rows) and len(rows[0]) == 3)
     wanted = {tech: of_tech(house, world.account, tech) for tech in
               ('T010000', 'T020001', 'T030000')}
@@ -97,20 +97,19 @@ def test_chosen_lots_stay_chosen_under_another_filter(house: House, world: stage
                                                       visit: Visit) -> None:
     page = visit(house, 'anna', f'holdings/{world.account}', '.summed')
     boxes, rows = page.all('td.pick input'), page.cells()
+    counts = [number(text) for text in page.column('Count')]
     for at in (1, 3, 3, 4):
         boxes[at].click()
-    count = number(rows[1][-2]) + number(rows[4][-2])
+    count = counts[1] + counts[4]
     assert f'{count:,} certificates chosen in 2 lots' in chosen(page, count)
-    page.type('.filters [name=tech]', 'Wind')
+    page.filter('tech', 'Wind')
     page.cells_when(lambda rows: len(rows) == 6)
     chosen(page, count)
     page.look('holdings', dark=True)
-    lots, _ = stage.statement(house, world.account)
-    more = [number(row[-2]) for row in rows if 'Parndorf' in row[1] or 'Parndorf' in row[2]]
-    assert len(more) == 6 and lots
-    already = sum(number(rows[at][-2]) for at in (1, 4) if 'Parndorf' in ' '.join(rows[at]))
+    wind = [at for at, row in enumerate(rows) if 'Parndorf' in ' '.join(row)]
+    assert len(wind) == 6
     page.click('main button', 'Choose all of these')
-    chosen(page, count - already + sum(more))
+    chosen(page, sum(counts[at] for at in {1, 4, *wind}))
 
 
 def test_more_than_there_is_cannot_be_chosen(house: House, world: stage.World,

@@ -61,9 +61,9 @@ def test_the_history_tells_who_sent_what_to_whom(house: House, dealt: Dealt, vis
 
 def test_the_history_is_filtered(house: House, dealt: Dealt, visit: Visit) -> None:
     page = visit(house, 'anna', 'history', 'table')
-    page.type('.filters [name=kind]', 'transfer')
+    page.filter('kind', 'transfer')
     page.cells_when(lambda rows: {row[1] for row in rows} == {'transfer'})
-    page.type('.filters [name=outcome]', 'accepted')
+    page.filter('outcome', 'accepted')
     rows = page.cells_when(lambda rows: len(rows) == 3)
     assert [row[2] for row in rows] == ['4', '40', '10']
 
@@ -124,9 +124,9 @@ def test_what_the_issuing_body_entered_by_user(house: House, dealt: Dealt, visit
     page.look('lists-entered')
     acts = house.ask('office', 'GET', '/records/v1/acts?caller=ISSUER&limit=1000').json['items']
     own = sum(act['user'] == 'office' for act in acts)
-    page.type('.filters [name=user]', 'nobody', Keys.ENTER)
+    page.filter('user', 'nobody', Keys.ENTER)
     page.see('.listed', 'No act fits')
-    page.type('.filters [name=user]', Keys.CONTROL, 'a')
-    page.type('.filters [name=user]', 'office', Keys.ENTER)
+    page.filter('user', Keys.CONTROL, 'a')
+    page.filter('user', 'office', Keys.ENTER)
     rows = page.cells_when(lambda rows: bool(len(rows) == min(own, 100)))
     assert all('by office' in row[8] for row in rows)

@@ -141,7 +141,7 @@ def test_a_filter(costs: Costs) -> None:
     page = costs.page
 
     def find() -> None:
-        page.type('.filters [name=q]', 'Roof 7', Keys.ENTER)
+        page.filter('q', 'Roof 7', Keys.ENTER)
         page.see('.summed b', f'{DAYS:,} certificates')
     costs.of(find, 2)
 

@@ -8,14 +8,14 @@ use Rattle.goo_store_judge.specs.Moments.{moment}
 use Rattle.goo_cli_ending.specs.declared.ending.Ending.TheVariants.{Failed}
 use Rattle.goo_cli_ending.specs.declared.ending.Failure.{Failure}
 use Rattle.goo_cli_registry.specs.Openings.{IsRun}
-use Rattle.goo_cli_registry.proofs.Files.{not_run}
+use Rattle.goo_cli_registry.proofs.Files.{not_run, unmade_failure}
 use Rattle.goo_desk_server.specs.Runs.{KeepsPromise}
 use Rattle.goo_registry.specs.Desks.{seen_of}
 use Rattle.goo_desk_backend.specs.Showing.{begun_by, imported_by, shown_by}
 use Rattle.goo_desk_server.proofs.Connecting.{serves_honest}
 use Rattle.goo_cli_files.specs.ServesConnections.{ServesNew}
 use Rattle.goo_cli_files.proofs.DurableLemmas.{new_served}
-use Rattle.goo_cli_files.proofs.Served.{none_counted}
+use Rattle.goo_cli_files.proofs.Served.{none_counted, of_fault}
 use Rattle.goo_cli_files.proofs.serving.serve_new.Goals as goal
 
 -- nothing is accepted where there is no registry
@@ -58,3 +58,6 @@ returns-in-Ok-clause-serves g c =
 
 pub returns-in-Err-clause-serves : goal.returns-in-Err-clause-serves
 returns-in-Err-clause-serves g c low = inl refl
+
+pub returns-in-Err-clause-words : goal.returns-in-Err-clause-words
+returns-in-Err-clause-words g c = of_fault c.failure_of.result (unmade_failure c.in-Err.fault c.failure_of.result c.failure_of.ensures c.in-Err.ensures.words)

@@ -1,4 +1,4 @@
-use Rattle.std.proofs.Common.{◌≡◌, None, subst, sym}
+use Rattle.std.proofs.Common.{◌≡◌, None, inl, refl, subst, sym}
 use Rattle.std.specs.FinMap.{get}
 use Rattle.sqlite.specs.Files.{file_state}
 use Rattle.sqlite_trees.specs.View.{doubt}
@@ -10,7 +10,7 @@ use Rattle.goo_cli_registry.specs.Closings.{HoldState, IfWhole}
 use Rattle.goo_cli_registry.specs.Finds.{FindsRight, IfParts}
 use Rattle.std.proofs.KnownBytes.{Keeps-refl}
 use Rattle.goo_cli_registry.proofs.DurableLemmas.{opened}
-use Rattle.goo_cli_files.proofs.Begun.{held_as, not_refused, wrote_begun}
+use Rattle.goo_cli_files.proofs.Begun.{began_begun, held_as, not_refused, wrote_begun}
 use Rattle.goo_cli_files.proofs.texts.statement_in_files.Goals as goal
 
 pub returns-in-Ok-clause-shown : goal.returns-in-Ok-clause-shown
@@ -45,8 +45,8 @@ returns-in-Ok-clause-kept g c = λ clean db holds.
     (subst (λ shelf. IfWhole c.close_registry.result (λ files. AreClean g.D.Disk files.log files.db → (moment (file_state shelf.conn) shelf.refused).defects ≡ 0)) c.into_shelf.ensures c.close_registry.ensures.sure)
     (subst (λ shelf. IfParts c.close_registry.result (FindsRight (moment (file_state shelf.conn) shelf.refused).leaves)) c.into_shelf.ensures c.close_registry.ensures.found)
 
-pub returns-in-Ok-clause-unharmed : goal.returns-in-Ok-clause-unharmed
-returns-in-Ok-clause-unharmed g c clean = not_refused c.close_registry.result _ c.close_registry.ensures.opened
+pub returns-in-Ok-clause-turned_away : goal.returns-in-Ok-clause-turned_away
+returns-in-Ok-clause-turned_away g c clean = not_refused c.close_registry.result _ c.close_registry.ensures.opened
 
 pub returns-in-Ok-clause-words : goal.returns-in-Ok-clause-words
 returns-in-Ok-clause-words g c = opened c.close_registry.result _ c.show_statement-ending.ensures.words
@@ -56,3 +56,18 @@ returns-in-Ok-clause-refused g c = not_refused c.close_registry.result _ c.close
 
 pub returns-in-Err-clause-refused : goal.returns-in-Err-clause-refused
 returns-in-Err-clause-refused g c = record { word = c.in-Err.ensures.word; silent = Keeps-refl _ }
+
+pub returns-in-Err-clause-turned_away : goal.returns-in-Err-clause-turned_away
+returns-in-Err-clause-turned_away g c clean = record { failure = c.in-Err.failure; tells = refl; why = c.in-Err.ensures.why clean; unharmed = c.in-Err.ensures.unharmed clean }
+
+pub returns-in-Ok-clause-begun : goal.returns-in-Ok-clause-begun
+returns-in-Ok-clause-begun g c = λ clean db holds status.
+    let low = subst (λ shelf. doubt (file_state shelf.conn).is_clean ≡ 0) c.into_shelf.ensures (c.close_registry.ensures.clean clean) in
+    let before = subst (λ shelf. doubt (file_state shelf.conn).is_clean ≡ 0) c.new-registry.ensures (c.show_statement-ending.ensures.corruptions_stay low) in
+    let none = c.in-Ok.ensures.ready.works before in
+    began_begun (λ s. IsStatement s c.args.account) _ _ _ _
+    (subst (λ shelf. (moment (file_state shelf.conn) shelf.refused).state ≡ state_held db) (sym c.new-registry.ensures) (c.in-Ok.ensures.state db holds none))
+    (c.show_statement-ending.ensures.begun low (subst (λ shelf. (moment (file_state shelf.conn) shelf.refused).defects ≡ 0) (sym c.new-registry.ensures) none) status)
+
+pub returns-in-Err-clause-begun : goal.returns-in-Err-clause-begun
+returns-in-Err-clause-begun g c = λ clean db holds status. inl (Keeps-refl _)

@@ -5,11 +5,23 @@ use Rattle.sqlite_store.specs.FileStore.{recovers}
 use Rattle.goo_spec.specs.Created.{created}
 use Rattle.goo_spec.specs.State.{State}
 use Rattle.goo_cli_registry.specs.Closings.{IsKept}
-use Rattle.goo_cli_registry.proofs.Files.{clean_before, kept_spares, leaves_or, leaves_or_made, leaves_store, made_open, only_there, whole_as, word_of_desk}
+use Rattle.goo_cli_registry.proofs.Files.{clean_before, kept_spares, leaves_or, leaves_or_made, leaves_store, made_open, only_there, unmade, whole_as}
+use Rattle.goo_cli_jobs.proofs.MakingLemmas.{unread_tells, unread_words, vacant_tells}
 use Rattle.goo_cli_jobs.proofs.creating.create_registry.Goals as goal
 
 pub returns-in-Err-clause-words : goal.returns-in-Err-clause-words
-returns-in-Err-clause-words g c = word_of_desk c.in-Err.fault c.from.result c.from.ensures
+returns-in-Err-clause-words g c = unread_words c.in-Err.fault c.from.result c.from.ensures
+
+pub returns-in-Err-clause-tells : goal.returns-in-Err-clause-tells
+returns-in-Err-clause-tells g c clean = unread_tells c.args.files c.in-Err.fault c.from.result c.in-Err.left c.from.ensures (λ store. c.in-Err.ensures.store store clean)
+
+-- a registry is made in a database that has no table
+pub returns-in-Ok-begin-clause-vacant : goal.returns-in-Ok-begin-clause-vacant
+returns-in-Ok-begin-clause-vacant g c = (
+  c.in-Ok.conn,
+  λ clean. record { finds = c.in-Ok.ensures.found clean; opened = c.in-Ok.ensures.opened clean; unlimited = c.in-Ok.ensures.fresh.unlimited },
+  λ taken. c.in-Ok-begin.ensures.taken taken,
+)
 
 pub returns-in-Ok-begin-clause-made : goal.returns-in-Ok-begin-clause-made
 returns-in-Ok-begin-clause-made g c =
@@ -44,7 +56,15 @@ returns-in-AlreadyThere-clause-there g c told = untouched g c
 pub returns-in_default : goal.returns-in_default
 returns-in_default g c = record {
   made = tt;
-  words = (c.in-Err-begin.fault, c.ending_of-in_default.ensures);
+  words = unmade c.in-Err-begin.fault c.ending_of-in_default.result c.ending_of-in_default.ensures c.in-Err-begin.ensures.words;
+  vacant = tt;
+  tells = λ clean.
+      vacant_tells c.args.files c.ending_of-in_default.result _ (unmade c.in-Err-begin.fault c.ending_of-in_default.result c.ending_of-in_default.ensures c.in-Err-begin.ensures.words)
+      (λ told. c.in_default.not-AlreadyThere (only_there c.in-Err-begin.fault (sym c.ending_of-in_default.ensures ∙ told))) (
+        c.in-Ok.conn,
+        λ clean. record { finds = c.in-Ok.ensures.found clean; opened = c.in-Ok.ensures.opened clean; unlimited = c.in-Ok.ensures.fresh.unlimited },
+        λ taken. c.in_default.not-AlreadyThere (c.in-Err-begin.ensures.taken taken),
+      );
   held = tt;
   copied = tt;
   uncopied = tt;
@@ -55,3 +75,14 @@ returns-in_default g c = record {
       c.into_store.result (λ db may. made_open _ db (file_state c.in-Ok.conn).is_open (c.in-Ok.ensures.opened before).0.is_open (c.in-Err-begin.ensures.crash late db (c.into_store.ensures.quiet.outcomes db may)));
   there = λ told. absurd (c.in_default.not-AlreadyThere (only_there c.in-Err-begin.fault (sym c.ending_of-in_default.ensures ∙ told)));
 }
+
+-- there are tables
+pub returns-in-AlreadyThere-clause-tells : goal.returns-in-AlreadyThere-clause-tells
+returns-in-AlreadyThere-clause-tells g c clean =
+    let late : HasCleanDisk (file_state c.in-Err-begin.conn) = clean_before _ _ c.into_store.ensures.quiet.clean clean in
+    let before : HasCleanDisk (file_state c.in-Ok.conn) = c.in-Err-begin.ensures.clean late in
+    rw c.ending_of.ensures (rw c.in-AlreadyThere.is (
+      c.in-Ok.conn,
+      record { finds = c.in-Ok.ensures.found before; opened = c.in-Ok.ensures.opened before; unlimited = c.in-Ok.ensures.fresh.unlimited },
+      λ none. c.in-Err-begin.ensures.untaken none c.in-AlreadyThere.is,
+    ))

@@ -12,4 +12,4 @@ pub returns-in-Serve : goal.returns-in-Serve
 returns-in-Serve g c =
     let it = c.serve_in_memory.ensures in
     let new = created c.args.opening.code c.args.opening.today c.args.opening.next_serial in
-    record { worked = rw c.in-Serve.is (served_in_memory new (g.R.Read.remaining c.args.reader.now) (g.R.Read.remaining c.args.reader.now) _ _ c.serve_in_memory.result _ _ _ _ it.announced it.counted it.serves) }
+    record { worked = rw c.in-Serve.is (served_in_memory new (g.R.Read.remaining c.args.reader.now) (g.R.Read.remaining c.args.reader.now) _ _ c.serve_in_memory.result _ _ _ _ it.announced it.counted it.serves it.words) }

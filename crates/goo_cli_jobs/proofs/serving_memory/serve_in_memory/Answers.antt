@@ -1,7 +1,7 @@
 use Rattle.std.proofs.Common.{inl, refl}
 use Rattle.sqlite.specs.Files.{file_state}
 use Rattle.sqlite_pool.specs.Pool.{state}
-use Rattle.goo_cli_files.proofs.Served.{none_counted}
+use Rattle.goo_cli_files.proofs.Served.{none_counted, of_fault}
 use Rattle.goo_cli_registry.proofs.Files.{honest}
 use Rattle.goo_cli_jobs.proofs.serving_memory.serve_in_memory.Goals as goal
 
@@ -16,3 +16,6 @@ returns-in-Err-clause-serves g c = inl refl
 pub returns-clause-serves : goal.returns-clause-serves
 unfolding state
 returns-clause-serves g c = c.serve_new-ending.ensures.serves (honest (file_state c.serve_new-ending.result.1).is_clean refl)
+
+pub returns-in-Err-clause-words : goal.returns-in-Err-clause-words
+returns-in-Err-clause-words g c = of_fault c.in-Err.failure c.in-Err.ensures.word

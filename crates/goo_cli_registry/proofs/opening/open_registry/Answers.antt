@@ -1,11 +1,11 @@
-use Rattle.std.proofs.Common.{◌∙◌, ap, sym, subst}
+use Rattle.std.proofs.Common.{◌∙◌, ap, inl, sym, subst}
 use Rattle.sqlite.specs.Effect.{Database}
 use Rattle.sqlite.specs.Files.{file_state}
 use Rattle.goo_store_opening.specs.Versions.{state_held}
 use Rattle.goo_store_judge.specs.Holding.{sure}
 use Rattle.goo_store_judge.specs.Moments.{OpensAsEither}
 use Rattle.sqlite.specs.Tree.{Trees}
-use Rattle.goo_cli_registry.proofs.Files.{clean_before, leaves_registry, leaves_same, of_files, of_opening, outside_failure, fault_failure}
+use Rattle.goo_cli_registry.proofs.Files.{clean_before, fault_failure, fault_in, leaves_registry, leaves_same, of_files, of_opening, outside_failure, why_unread}
 use Rattle.goo_cli_registry.proofs.opening.open_registry.Goals as goal
 
 pub open_observed-requires-clause-ordered : goal.open_observed-requires-clause-ordered
@@ -53,3 +53,25 @@ returns-in-Err-open_observed-clause-word g c = of_opening c.in-Err-open_observed
 
 pub returns-in-Err-clause-word : goal.returns-in-Err-clause-word
 returns-in-Err-clause-word g c = of_files c.in-Err.fault c.from.result c.from.ensures
+
+-- the word for what the files hold is handed on
+pub returns-in-Err-open_observed-clause-why : goal.returns-in-Err-open_observed-clause-why
+returns-in-Err-open_observed-clause-why g c = λ clean.
+    let it = c.in-Err-open_observed in
+    let late = clean_before _ _ c.into_store.ensures.quiet.clean clean in
+    let before = it.ensures.not_opened.clean_before late in
+    inl (
+      it.fault,
+      c.failure_of.ensures,
+      record {
+        before = c.in-Ok.conn;
+        after = it.conn;
+        over = record { finds = c.in-Ok.ensures.found before; opened = c.in-Ok.ensures.opened before; unlimited = c.in-Ok.ensures.fresh.unlimited };
+        clean = late;
+        lacking = λ lacks. ap (λ r. fault_in it.fault r) (it.ensures.lacking lacks);
+        why = it.ensures.not_opened;
+      },
+    )
+
+pub returns-in-Err-clause-why : goal.returns-in-Err-clause-why
+returns-in-Err-clause-why g c = λ clean. why_unread c.args.files c.in-Err.left c.in-Err.fault c.from.result c.from.ensures (λ store. c.in-Err.ensures.store store clean)

@@ -1,0 +1,3 @@
+pub mod LinesOn
+pub mod TablesOn
+pub mod Twice
