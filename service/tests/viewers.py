@@ -178,8 +178,9 @@ def faults_of_party(service: Service, rows: Rows) -> Iterator[object]:
 
 OTHERS = {'choice': faults_of_choice, 'documents': faults_of_documents, 'status': faults_of_status,
           'party': faults_of_party}
-ELSEWHERE = {'attachments'}
-"""A registry that was not brought over has none: test_migrate.py tries who sees one."""
+ELSEWHERE = {'attachments', 'papers'}
+"""What this book has none of. test_migrate.py tries who sees documents of an old registry, and
+test_plans.py who gets the documents of a table."""
 NOBODY: tuple[list[str], ...] = ([], ['SUN', 'SUN'], ['SUN', ISSUER], ['sun'], [''],
                                  ['SUN VOLT'], ['%'], ['A' * 17])
 """Fields of a request that do not say who asks."""
