@@ -249,11 +249,19 @@ class Browser:
             try:
                 element = self.see(css, text)
                 self.run("arguments[0].scrollIntoView({block: 'center'})", element)
+                self.wait_until_free(element)
                 element.click()
                 return
             except StaleElementReferenceException:
                 if last:
                     raise
+
+    def wait_until_free(self, element: WebElement) -> None:
+        """A button whose act is under way takes no press (`busy` of web/dom.js): its end is near
+        once what it came to is shown."""
+        end = time.monotonic() + SECONDS
+        while element.get_attribute('aria-disabled') == 'true' and time.monotonic() < end:
+            time.sleep(0.02)
 
     def type(self, css: str, *words: str) -> None:
         self.see(css).send_keys(*words)
