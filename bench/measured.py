@@ -30,6 +30,7 @@ version = "0.0.0"
 edition = "2021"
 [dependencies]
 rusqlite = "0"
+serde = "1"
 serde_json = "1"
 '''
 CONFIGURATION = f'''[source.crates-io]
@@ -205,9 +206,9 @@ def rust():
     """The words that start the baseline in Rust, built once; None, and why, where it can't be."""
     if 'PLAIN' in os.environ:
         return [os.environ['PLAIN'], str(CREATE)]
-    lacking = [name for name in ('rusqlite', 'serde_json') if not any(CRATES.glob(f'{name}-[0-9]*'))]
+    lacking = [name for name in ('rusqlite', 'serde', 'serde_json') if not any(CRATES.glob(f'{name}-[0-9]*'))]
     if lacking or not shutil.which('cargo'):
-        what = 'no cargo' if not lacking else f'no {" and no ".join(lacking)} in {CRATES} (librust-rusqlite-dev, librust-serde-json-dev)'
+        what = 'no cargo' if not lacking else f'no {" and no ".join(lacking)} in {CRATES} (librust-rusqlite-dev, librust-serde-dev, librust-serde-json-dev)'
         say(f'{what}: the plain registry in Rust is left out')
         return None
     say('building plain.rs')

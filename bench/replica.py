@@ -59,7 +59,7 @@ def replica_of(folder, port):
     position.begin(folder / 'place', 0, secrets.token_hex(32))
     place = position.Place(folder / 'place')
     first = entries.Entry(1, place.hash, entries.now(), 'h1', '', '', 'full', 'ISSUER', 'VERSION', '', 'v', 'x', b'v')
-    file_store.begin(folder / 'log', entries.written(first, KEY), 1)
+    file_store.begin(folder / 'log', entries.entry_line(first, KEY), 1)
     place.close()
     words = module.parse_words(['--state', str(folder), '--store', str(folder / 'log'), '--key', str(folder / 'key'), '--registry', f'127.0.0.1:{port}', '--version', 'v'])
     near, far = socket.socketpair()
@@ -94,9 +94,9 @@ async def taken_in(replica, parts, told):
         for call in calls:
             replica.service.serve(call, lambda answer, fields: told.append(answer))
     with parts.part('first process: entries with their hashes, into the log'):
-        await replica.append_batch(replica.requests.batch(replica.store), end)
+        await replica.appender.append_batch(replica.requests.batch(replica.store), end)
     with parts.part('first process: given to the second'):
-        await replica.hand(replica.known.run_from(end.n + 1, MANY))
+        await replica.feeder.send_all(replica.known.run_from(end.n + 1, MANY))
 
 
 def applied(replica, second, parts):
@@ -131,7 +131,7 @@ async def measured(port, runs):
         replica, second, near = replica_of(Path(folder), port)
         second.step((await replica.store.lines_from(1))[0])
         second.send_outcomes()
-        replica.handed, _ = 1, replica.sizes.append(0)
+        replica.feeder.handed, _ = 1, replica.feeder.sizes.append(0)
         replica.applier.data_received(near.recv(1 << 20))
         for _ in range(runs):
             await one_run(replica, second, near, parts)

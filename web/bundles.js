@@ -13,6 +13,7 @@ import {askable, factsOf, partnerOf, sendable} from './partner.js';
 import {asked, everyItem, holderOf} from './records.js';
 import {bodyOf, last, newKey, pause} from './registry.js';
 import {session} from './session.js';
+import {fieldsOf, known as inWay} from './way.js';
 import * as texts from './texts.js';
 import * as words from './words.js';
 
@@ -89,7 +90,7 @@ async function sent(bundle) {
 async function once(bundle) {
   let answer, text;
   try {
-    answer = await fetch(`/v1/bundles${bundle.whole === false ? '' : '?whole=yes'}`, {method: 'POST', body: bodyOfAll(bundle), headers: {'Content-Type': 'application/x-ndjson'}});
+    answer = inWay(await fetch(`/v1/bundles${bundle.whole === false ? '' : '?whole=yes'}`, {method: 'POST', body: bodyOfAll(bundle), headers: fieldsOf('application/x-ndjson')}));
     text = await answer.text();
   } catch { return {...words.status(0), kept: true}; }
   bundle.entry = Number(answer.headers.get('GOO-Entry') ?? 0);
@@ -110,6 +111,7 @@ function judge(bundle, status, text, wait) {
     return {good: true};
   }
   const of = parsed(text);
+  if (status === 202) return words.waits(of);
   if (of?.outcome) return {...inWords(of), refused: bundle.ranges[(of.line ?? 1) - 1]};
   const kept = ![400, 403, 404, 413].includes(status), again = [429, 503].includes(status) && typeof of?.error === 'string' && wait <= words.LONG_WAIT;
   return {...(typeof of?.error === 'string' ? words.reason(status, of.error, wait) : words.status(status)), kept, again, wait};

@@ -17,6 +17,9 @@ const whenOf = (act) => h('a', {href: `#act/${act.id}`}, act.time ? `${act.time.
 /** The roles of users, by their words in the list of callers. */
 const ROLES = {full: t`full`, reads: t`read only`, declares: t`declarations only`};
 export const roleName = (role) => ROLES[role] ?? role;
+/** How users sign in, by the log's words; a token has its name behind it. */
+const WAYS = {session: t`sign-in page`, certificate: t`client certificate`, password: t`password`};
+const wayOf = (way) => way.startsWith('token ') ? t`token “${way.slice(6)}”` : WAYS[way] ?? way;
 /** Why an act came to nothing: the registry's refusal or fault, or the role of the user, whose request never came to the registry. */
 const reason = (act) => act.refusal === 'Role' ? t`role “${roleName(act.role)}”` : act.refusal;
 const outcome = (act) => act.outcome === 'accepted' ? OUTCOMES.accepted : h('b', {class: 'word refused'}, act.refusal ? `${OUTCOMES[act.outcome]}: ${reason(act)}` : OUTCOMES[act.outcome]);
@@ -74,7 +77,7 @@ export function history(account, said) {
 export async function act(id) {
   const of = await asked(`acts/${encodeURIComponent(id)}`);
   const known = [[t`When, UTC`, of.time?.slice(0, 19).replace('T', ' ')], [t`Registry’s date`, of.day], [t`Outcome`, outcome(of)], [t`Document`, paperOf(of)], [t`From`, party(of.giver)], [t`To`, party(of.taker)], [t`Registry`, far(of)],
-    [t`Device`, of.device], [t`Holder`, of.holder], ['Wh', of.wh === null ? null : count(of.wh)], [t`Note`, of.note], [t`User`, of.user], [t`Role`, roleName(of.role)], [t`Caller`, of.caller], [t`Key`, of.key], [t`Entry of the log`, of.entry ? count(of.entry) : null],
+    [t`Device`, of.device], [t`Holder`, of.holder], ['Wh', of.wh === null ? null : count(of.wh)], [t`Note`, of.note], [t`User`, of.user], [t`Role`, roleName(of.role)], [t`Signed in by`, of.way && wayOf(of.way)], [t`Confirmed by`, of.confirmed], [t`Caller`, of.caller], [t`Key`, of.key], [t`Entry of the log`, of.entry ? count(of.entry) : null],
     [of.bundle ? t`Lines of the bundle` : t`Rows of the table`, of.lines ? `${count(of.rows)}: ${of.lines}` : null],
     [t`Bundle`, of.bundle ? h('a', {href: `#history//bundle=${of.bundle}`}, t`line ${count(of.line)} of entry ${count(of.bundle)}`) : null],
     [t`Certificates`, of.count ? count(of.count) : null]].filter(([, value]) => value);

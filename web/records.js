@@ -3,6 +3,7 @@
 
 import {t} from './language.js';
 import {Unread, last, pause} from './registry.js';
+import {fieldsOf, known} from './way.js';
 import * as words from './words.js';
 
 export const records = {isThere: false, hasDirectory: false, hasAttachments: false};
@@ -41,7 +42,7 @@ async function inTurn(ask) {
 /** An answer of the records. A question that they can't answer is thrown, in words. */
 export async function asked(name, parameters, tries = 30) {
   const ask = async () => {
-    const answer = await fetch(pathOf(name, parameters), {cache: 'no-store'});
+    const answer = known(await fetch(pathOf(name, parameters), {cache: 'no-store'}));
     return [answer, answer.ok ? await answer.json() : null];
   };
   let answer, found;
@@ -57,7 +58,7 @@ export async function asked(name, parameters, tries = 30) {
 /** What the records say of a table that is not sent yet. */
 export async function askedOf(name, table, parameters, kind = 'text/csv', tries = 30) {
   const ask = async () => {
-    const answer = await fetch(pathOf(name, parameters), {method: 'POST', body: table, headers: {'Content-Type': kind}, cache: 'no-store'});
+    const answer = known(await fetch(pathOf(name, parameters), {method: 'POST', body: table, headers: fieldsOf(kind), cache: 'no-store'}));
     return [answer, answer.ok ? await answer.json() : null];
   };
   let answer, found;

@@ -2,12 +2,14 @@
 
 import {t} from './language.js';
 import {whoAmI} from './registry.js';
+import {fieldsOf, findWay, way} from './way.js';
 
 /** `reads` and `declares` are roles that allow less than `full`; the page leaves out what the front door would refuse. */
 export const session = {caller: '', isIssuer: false, role: 'full', ahead: 0, get isFull() { return this.role === 'full'; }};
 
-/** Asks the front door who is signed in; false where that is nobody whom the registry knows. */
+/** Asks the front door who is signed in; false where that is nobody whom the registry knows, and null where the browser goes to the page that signs in. */
 export async function signIn() {
+  if (!await findWay()) return null;
   const {caller, role, time} = await whoAmI();
   Object.assign(session, {caller, role, isIssuer: caller === 'ISSUER', ahead: time ? time - Date.now() : 0});
   return caller !== '';
@@ -16,12 +18,16 @@ export async function signIn() {
 const SIGNED_OUT = 'goo_signed_out', HERE = 'path=/; secure; samesite=strict';
 
 /**
- * Forgets what this browser has seen of the caller's accounts, and has it forget his password. Resolves to what it still has of him: '' or 'password'; or
- * 'certificate', which no browser forgets, and with which nobody is signed in here from now on. Requests without an answer stay: they are the only way to
+ * Forgets what this browser has seen of the caller's accounts, and ends his session or has the browser forget his password. Resolves to what it still has of him: '', 'session' where that is over,
+ * or 'password'; or 'certificate', which no browser forgets, and with which nobody is signed in here from now on. Requests without an answer stay: they are the only way to
  * learn what became of them.
  */
 export async function signOut() {
   localStorage.removeItem(`goo/seen/${session.caller}`);
+  if (way.me) {
+    const answer = await fetch('/people/v1/sign-out', {method: 'POST', body: '{}', headers: fieldsOf('application/json'), cache: 'no-store'});
+    return answer.ok || answer.status === 401 ? 'session' : 'password';
+  }
   await kept();                                 // the password goes with this answer; the next request no longer has it
   const still = await kept();
   if (still === 'certificate') document.cookie = `${SIGNED_OUT}=yes; ${HERE}`;
@@ -40,7 +46,7 @@ export const isSignedOut = () => document.cookie.includes(SIGNED_OUT);
 /** Signs in again: the browser asks for a password, or sends its certificate. */
 export function signInAgain() {
   document.cookie = `${SIGNED_OUT}=; max-age=0; ${HERE}`;
-  location.assign('./');
+  location.assign(way.me ? 'sign-in.html' : './');
 }
 
 /** The day by the server's clock, in the time zone of this browser. */

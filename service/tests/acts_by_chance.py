@@ -8,13 +8,14 @@ from collections.abc import Iterator
 from pathlib import Path
 from typing import Any
 
-from goo_service.common.rules import ISSUER
-from goo_service.common.rules import Registry
-from goo_service.common.rules import Wrong
-from goo_service.common.rules import months_after
 from goo_service.records import web
-from goo_service.records.parameters import page_parameter
+from goo_service.rules.commands import ISSUER
+from goo_service.rules.days import months_after
+from goo_service.rules.refusals import Wrong
+from goo_service.rules.registry import Registry
 from house import SERVICE
+from made_book import page_parameter
+from made_book import routes_of
 from mutations import gsrn
 from mutations import lot
 from mutations import part
@@ -24,7 +25,7 @@ HOLDERS = ('SUN', 'VOLT', 'WIND', 'RHEIN', 'NORD')
 ACCOUNTS = {number: HOLDERS[(number - 1) % len(HOLDERS)] for number in range(1, 11)}
 TODAY, CODE = '2026-01-15', 7
 OWN = CODE * 10 ** 12
-PLANTS = [('T010000', 'F01010100', None, 'DE'), ('T020001', 'F01010500', None, 'FR'),
+PLANTS = [('T010000', 'F01010100', None, 'DE'), ('T020001', 'F01010500', 'electricity', 'FR'),
           ('T030000', 'F01020100', 'gas', 'DE'), ('T010000', 'F01010100', None, 'AT')]
 DEVICES = [gsrn(number) for number in range(1, 13)]
 HEAD = 'key,device,first_day,last_day,gross_wh,aux_wh\n'
@@ -200,7 +201,7 @@ class Service:
     """The service over a book, asked without a socket."""
 
     def __init__(self, folder: Path) -> None:
-        self.own = web.Service(folder, folder / 'state.json')
+        self.own = routes_of(folder)
         self.client = web.application(folder, folder / 'state.json').test_client()
 
     def ask(self, caller: str | None, path: str, /, **parameters: Any) -> tuple[int, Any]:

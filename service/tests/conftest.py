@@ -30,6 +30,7 @@ def pytest_addoption(parser: pytest.Parser) -> None:
     parser.addoption('--slow', action='store_true', help='runs the tests of minutes too')
     parser.addoption('--seed', type=int, default=1, help='of requests by chance')
     parser.addoption('--acts', type=int, default=1200, help='how many requests by chance')
+    parser.addoption('--histories', type=int, default=20, help='registries by chance')
     parser.addoption('--pictures', metavar='FOLDER', help='keeps pictures of the page there')
 
 

@@ -8,6 +8,9 @@ paths and ports changed. Several houses may stand side by side.
         country = house.make_country()
         answer = house.ask('anna', 'GET', f'/v1/accounts/{country.sun}/statement')
 
+With `people=True` goo-people stands in front: house_people.py says how to sign in. Its parts are
+'who', 'people' and 'gate'. Else nginx compares passwords of a file.
+
 A part is one of 'nginx', 'log', 'registry', 'rehearsal' (which tries bundles for the log),
 'records' (which makes the book), 'web' (which answers from the book) and 'verify' (which checks
 documents by it). Nothing starts a part anew that has ended: a trial does, by `start`.
@@ -25,6 +28,7 @@ import tempfile
 import time
 from collections.abc import Iterable
 from dataclasses import dataclass
+from dataclasses import field
 from pathlib import Path
 from typing import Any
 from typing import Self
@@ -48,6 +52,8 @@ PARTS = ('registry', 'rehearsal', 'log', 'records', 'web', 'verify', 'nginx')
 """In the order in which they are started."""
 BODY, BODY_ADDRESS = 'Umweltamt Beispielstadt', 'Wörlitzer Platz 1, 06844 Dessau'
 """The issuing body, as its documents name it."""
+OF_PEOPLE = ('who', 'people', 'gate')
+"""Those of a house with people, as far as service/ has their units."""
 ALWAYS = ('registry', 'rehearsal', 'log')
 """Those that each house has."""
 RATE = 1000
@@ -62,6 +68,8 @@ class Answer:
     fields: dict[str, str]
     """By their names in small letters."""
     body: bytes
+    cookies: dict[str, str] = field(default_factory=dict)
+    """Those that it sets, with their values."""
 
     @property
     def text(self) -> str:
@@ -107,9 +115,20 @@ def accepted(command: str, answer: Answer) -> Any:
     return answer.json['reply']
 
 
+def unit_of(name: str) -> str:
+    """Of goo-people-web the part is 'people': 'web' is that of the records."""
+    return 'web' if name == 'people' else name
+
+
+def has_unit(service: Path, name: str) -> bool:
+    return (service / f'etc/systemd/goo-people-{unit_of(name)}.service').exists()
+
+
 def read_answer(came: client.Answer) -> Answer:
     fields = {name.lower(): value for name, value in came.fields.items()}
-    return Answer(came.status, fields, came.body)
+    set_here = [one.split(';')[0].partition('=') for one in came.fields.get_all('Set-Cookie') or ()]
+    cookies = {name: value for name, _, value in set_here}
+    return Answer(came.status, fields, came.body, cookies)
 
 
 def fields_of(named: dict[str, str]) -> list[str]:
@@ -163,10 +182,12 @@ class House:
     """
 
     def __init__(self, *, day: str = DAY, rate: int | None = RATE, service: Path = SERVICE,
-                 changes: Iterable[tuple[str, str]] = (), parts: Iterable[str] = PARTS) -> None:
-        self.day, self.service, self.begun = day, service, tuple(parts)
+                 changes: Iterable[tuple[str, str]] = (), parts: Iterable[str] = PARTS,
+                 people: bool = False) -> None:
+        of_people = [name for name in OF_PEOPLE if people and has_unit(service, name)]
+        self.day, self.service, self.begun = day, service, (*of_people, *parts)
         self.door = loopback.Place(day, rate, changes=changes, more=MORE_USERS, cost=4)
-        self.door.service, self.door.verify = service, 'verify.sock'
+        self.door.service, self.door.verify, self.door.people = service, 'verify.sock', people
         self.goo = str(Path(self.door.goo).resolve())
         self.users: dict[str, str] = {user: word for user, (_, word) in self.door.users.items()}
         """The password of each user."""
@@ -211,6 +232,11 @@ class House:
         self.copies = self.folder / 'copies'
         self.key = self.folder / 'replica.key'
         self.door.dir, self.door.etc = self.folder, self.folder / 'etc'
+        if self.door.people:
+            from house_people import People     # other houses do without its libraries
+            self.people = People(self, self.folder / 'people-file' / 'people.db')
+            (self.folder / 'people').mkdir()
+            self.people.begin()
         self.registry_port = client.free_port()
         self.lay_parts()
 
@@ -224,6 +250,9 @@ class House:
             self.door.exchange.mkdir()
             self.door.lay_nginx()
             self.port, self.plain = self.door.port, self.door.plain
+            if self.door.people and 'gate' not in self.parts:
+                who = self.door.etc / 'people.conf'
+                who.write_text(who.read_text().replace('/people/gate.sock', '/door.sock'))
             self.lay_documents(self.door.etc)
         for name in ('desk.sock', 'sign-in.sock'):
             (self.folder / name).unlink(missing_ok=True)
@@ -248,6 +277,9 @@ class House:
         self.add('records', lambda: [*self.unit('goo-records.service'), *begun], self.is_made)
         self.add_web('web')
         self.add_web('verify')
+        for name in self.begun:
+            if name in OF_PEOPLE:
+                self.add_of_people(name)
         self.add('nginx', lambda: [str(word) for word in self.door.nginx_words()],
                  lambda _: client.is_open(self.port))
         self.parts['nginx'].before = self.lay_door
@@ -269,6 +301,18 @@ class House:
                  PYTHONPATH=str(self.service), GOO_RECORDS=str(self.book),
                  GOO_EXCHANGE=str(self.book / 'exchange.json'),
                  GOO_ETC=str(self.folder / 'etc'))
+
+    def add_of_people(self, name: str) -> None:
+        """A part of goo-people at its socket."""
+        path = self.folder / 'people' / f'{unit_of(name)}.sock'
+        listen = ['--listen', str(path)] if name == 'gate' else ['--bind', f'unix:{path}']
+        self.add(name, lambda: [*self.unit(f'goo-people-{unit_of(name)}.service'), *listen],
+                 lambda _: client.is_open(path),
+                 PYTHONPATH=str(self.service),
+                 GOO_PEOPLE=str(self.folder / 'people-file' / 'people.db'),
+                 GOO_PEOPLE_GATE=str(self.folder / 'people' / 'gate.sock'),
+                 GOO_RECORDS_SOCKET=str(self.folder / 'web.sock'))
+        self.parts[name].before = lambda: path.unlink(missing_ok=True)
 
     def add(self, name: str, words: Any, is_there: Any, **environment: str) -> None:
         self.parts[name] = Part(name, words, is_there, self.folder, self.guard, environment)
@@ -292,7 +336,9 @@ class House:
             '/var/lib/goo/registry.db': self.db, '/var/lib/goo-replica': self.state,
             '/var/lib/goo-records': self.book, '/etc/goo/replica.key': self.key,
             '/etc/goo': self.door.etc, '/run/goo/registry.sock': f'127.0.0.1:{self.registry_port}',
-            '/run/goo-records': self.folder, '/run/goo': self.folder}
+            '/run/goo-records': self.folder, '/run/goo': self.folder,
+            '/run/goo-people': self.folder / 'people',
+            '/var/lib/goo-people': self.folder / 'people-file'}
         longest_first = sorted(named, key=len, reverse=True)
         return [(old, str(named[old])) for old in longest_first]
 

@@ -19,11 +19,14 @@ from goo_service.log.archive import Archive
 from goo_service.records import schema
 from goo_service.records import web
 from goo_service.records.book import Book
-from goo_service.records.parameters import page_parameter
+from goo_service.records.parameters import PARAMETERS
+from goo_service.records.places import Places
 from goo_service.records.registry import WatchedRegistry
+from goo_service.records.responses import Few
+from goo_service.records.routes import Routes
 from model import CODES
 from model import Model
-from goo_service.common.rules import ISSUER
+from goo_service.rules.commands import ISSUER
 
 CODE = 7
 DAY = '2026-01-15'
@@ -32,6 +35,9 @@ OWN = CODE * 10 ** 12
 HEADER = b'key,device,first_day,last_day,gross_wh,aux_wh\n'
 BAD, FORBIDDEN, CONFLICT = 400, 403, 409
 BUNDLES = '/v1/bundles'
+WAYS = ('session', 'token nightly', '')
+SECOND = ('', '', '', 'ben')
+"""How users signed in, and who confirmed, one after another."""
 
 
 def status_of(outcome: bytes) -> int:
@@ -40,6 +46,16 @@ def status_of(outcome: bytes) -> int:
     if told['outcome'] == 'refused':
         return FORBIDDEN if told['code'] == CODES['NotAllowed'] else CONFLICT
     return BAD if told['outcome'] == 'unreadable' else 200
+
+
+def page_parameter(route: str) -> str:
+    """The parameter that takes the `next` of a page of this list."""
+    return next(name for name in ('before', 'after', 'offset') if name in PARAMETERS[route])
+
+
+def routes_of(folder: Path) -> Routes:
+    """The routes over a book in a folder."""
+    return Routes(Places.of_unit(folder, folder / 'state.json', None, None), True, Few(1, ''))
 
 
 class Made:
@@ -64,8 +80,9 @@ class Made:
         entry = entries.Entry(
             n=self.last, prev='', time=f'2026-02-01T00:00:00.{self.last:06}Z', host='h1',
             user=f'user-{caller.lower()}', address='', role='full', caller=caller, method='POST',
-            route=route, version='trial', id=f'{self.last:x}', body=body)
-        outcome = entries.decided(route, status, answer, self.chain)
+            route=route, version='trial', id=f'{self.last:x}', body=body,
+            way=WAYS[self.last % len(WAYS)], confirmed=SECOND[self.last % len(SECOND)])
+        outcome = entries.outcome_after(route, status, answer, self.chain)
         self.chain = outcome.chain
         return entries.Record(entry._replace(**more), outcome, f'{self.last:064}')
 
@@ -178,7 +195,7 @@ class Logged(Made):
 
     def take(self, record: entries.Record) -> None:
         entry = record.entry._replace(prev=self.hash)
-        line = entries.written(entry, b'a key of a trial of records')
+        line = entries.entry_line(entry, b'a key of a trial of records')
         self.hash = entries.hash_of(line)
         self.archive.add(line, entry, record.outcome)
         self.archive.sync()

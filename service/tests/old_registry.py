@@ -13,6 +13,7 @@ import sys
 from collections.abc import Callable
 from collections.abc import Iterator
 from dataclasses import dataclass
+from dataclasses import replace
 from pathlib import Path
 
 TOP = Path(__file__).resolve().parents[2]
@@ -44,6 +45,8 @@ closed_on = "{CLOSED_ON}"
 [new]
 code = {NEW_CODE}
 date = "{DATE}"
+[carry]
+choice = "added"
 '''
 Row = list[str]
 Tables = dict[str, list[Row]]
@@ -69,10 +72,10 @@ def number(serial: int) -> str:
     return f'{CODE:02}{serial:012}'
 
 
-def month(count: int) -> tuple[str, str, str]:
+def month(begin: tuple[int, int], count: int) -> tuple[str, str, str]:
     """First and last day of a month, and the day on which its certificates are issued."""
-    years, of = divmod(FIRST_MONTH[1] - 1 + count, 12)
-    year = FIRST_MONTH[0] + years
+    years, of = divmod(begin[1] - 1 + count, 12)
+    year = begin[0] + years
     last = calendar.monthrange(year, of + 1)[1]
     after = (year + (of + 1) // 12, (of + 1) % 12 + 1)
     return f'{year}-{of + 1:02}-01', f'{year}-{of + 1:02}-{last}', f'{after[0]}-{after[1]:02}-10'
@@ -81,8 +84,8 @@ def month(count: int) -> tuple[str, str, str]:
 class Maker:
     """Makes the rows of each table, one after another."""
 
-    def __init__(self, seed: int, size: Size) -> None:
-        self.chance, self.size = random.Random(seed), size
+    def __init__(self, seed: int, size: Size, begin: tuple[int, int] = FIRST_MONTH) -> None:
+        self.chance, self.size, self.begin = random.Random(seed), size, begin
         self.accounts = size.holders + size.holders // 3
 
     def holders(self) -> Iterator[Row]:
@@ -104,7 +107,7 @@ class Maker:
         """Ranges of each lot in several accounts; what lies between was cancelled there."""
         serial = 1
         for count in range(self.size.months):
-            first_day, last_day, issued_on = month(count)
+            first_day, last_day, issued_on = month(self.begin, count)
             for at in range(self.size.devices):
                 for _ in range(self.size.ranges):
                     width = self.chance.randint(1, self.size.certificates)
@@ -122,11 +125,12 @@ class Maker:
                 'devices': self.devices(), 'stock': self.stock(), 'carried': self.carried()}
 
 
-def write(folder: Path, seed: int, size: Size = Size(), settings: str = SETTINGS) -> None:
-    """Writes the tables and the settings of a migration."""
+def write(folder: Path, seed: int, size: Size = Size(), settings: str = SETTINGS,
+          begin: tuple[int, int] = FIRST_MONTH) -> None:
+    """Writes the tables and the settings of a migration, whose first period is in a month."""
     (folder / 'tables').mkdir(parents=True, exist_ok=True)
     (folder / 'migration.toml').write_text(settings, encoding='utf-8')
-    for table, rows in Maker(seed, size).tables().items():
+    for table, rows in Maker(seed, size, begin).tables().items():
         write_table(folder, table, rows)
 
 
@@ -225,8 +229,8 @@ def main() -> int:
     parser.add_argument('--seed', type=int, default=1)
     parser.add_argument('--times', type=int, default=1)
     given = parser.parse_args()
-    size = Size(COUNTRY.holders, COUNTRY.devices * given.times, COUNTRY.months, COUNTRY.ranges,
-                COUNTRY.certificates)
+    size = replace(COUNTRY, holders=COUNTRY.holders * given.times,
+                   devices=COUNTRY.devices * given.times)
     write(given.folder, given.seed, size)
     return 0
 

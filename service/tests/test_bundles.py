@@ -154,7 +154,7 @@ def test_a_bundle_cut_off_anywhere_comes_to_the_same(needs: list[str], end: int,
     whole, cut = Doubled(), Doubled()
     path = Path('/dev/shm') / f'goo-test-bundle-{random.randrange(10 ** 12)}'
     try:
-        wanted = underway.applied(entry, {}, lambda *_: None, whole.send)
+        wanted = underway.apply_lines(entry, {}, lambda *_: None, whole.send)
         cut.ends_at = end
         with contextlib.suppress(Crash):
             run(path, entry, cut)
@@ -173,7 +173,7 @@ def run(path: Path, entry: Entry, registry: Doubled) -> Answer:
     refusals = underway.Refusals(path)
     try:
         kept = refusals.begin(underway.mark_of(entry))
-        return underway.applied(entry, kept, refusals.keep, registry.send)
+        return underway.apply_lines(entry, kept, refusals.keep, registry.send)
     finally:
         refusals.close()
 
@@ -181,7 +181,7 @@ def run(path: Path, entry: Entry, registry: Doubled) -> Answer:
 def test_lines_behind_one_that_is_set_aside_are_not_sent() -> None:
     entry = entry_of(body_of(line('a'), line('b'), line('c')))
     answers = iter([Answer(200, '', OK), None])
-    answer = underway.applied(entry, {}, lambda *_: None, lambda *_: next(answers))
+    answer = underway.apply_lines(entry, {}, lambda *_: None, lambda *_: next(answers))
     assert (answer.status, answer.body) == (200, OK + 2 * bundles.SET_ASIDE)
 
 
@@ -286,7 +286,7 @@ def test_a_rehearsal_says_what_the_program_says(file: Path, tmp_path_factory: An
     try:
         with contextlib.closing(sqlite3.connect(file)) as database:
             numbered = [bundles.line_of(at, text) for at, text in enumerate(lines, 1)]
-            said = rehearse.rehearsed(database, GOO, caller, numbered)
+            said = rehearse.rehearse(database, GOO, caller, numbered)
         wanted: dict[str, object] = {'rehearsed': len(lines)}
         for at, (text, answer) in enumerate(zip(lines, run_lines(copy, [(caller, text)
                                                                         for text in lines])), 1):
@@ -305,8 +305,8 @@ def test_a_rehearsal_carries_out_each_line_over_those_before(file: Path) -> None
     lines = [bundles.line_of(at, line(f'w{at}', giver=giver, taker=taker, **span))
              for at, (giver, taker) in enumerate(ways, 1)]
     with contextlib.closing(sqlite3.connect(file)) as database:
-        assert rehearse.rehearsed(database, GOO, 'SUN', lines[:2]) == {'rehearsed': 2}
-        assert rehearse.rehearsed(database, GOO, 'SUN', lines) == {
+        assert rehearse.rehearse(database, GOO, 'SUN', lines[:2]) == {'rehearsed': 2}
+        assert rehearse.rehearse(database, GOO, 'SUN', lines) == {
             'line': 3, 'key': 'w3', 'code': 17, 'name': 'NotHeld', 'number': span['first'],
             'outcome': 'refused'}
 
@@ -317,11 +317,12 @@ def test_more_runs_than_are_rehearsed(file: Path, monkeypatch: pytest.MonkeyPatc
         def said(first: int, last: int) -> dict[str, object]:
             text = line('a', giver=1, taker=2, first=f'{CODE * 10 ** 12 + first:014}',
                         last=f'{CODE * 10 ** 12 + last:014}')
-            return rehearse.rehearsed(database, GOO, 'SUN', [bundles.line_of(1, text)])
+            return rehearse.rehearse(database, GOO, 'SUN', [bundles.line_of(1, text)])
         assert said(11, 20) == {'rehearsed': 1}
         assert said(1, 40) == {'name': 'TooManyRuns', 'most': 6, 'outcome': 'refused'}
 
 
 def test_spans_that_meet_are_read_once() -> None:
-    assert list(rehearse.merged([(5, 9), (1, 3), (4, 4), (8, 12), (20, 20)])) == [(1, 12), (20, 20)]
-    assert list(rehearse.merged([])) == []
+    spans = [(5, 9), (1, 3), (4, 4), (8, 12), (20, 20)]
+    assert list(rehearse.merge_spans(spans)) == [(1, 12), (20, 20)]
+    assert list(rehearse.merge_spans([])) == []

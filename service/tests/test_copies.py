@@ -74,8 +74,8 @@ class Log:
             n=last.entry.n + 1 if last else 1, prev=prev, time='2025-03-01T09:00:00.000000Z',
             host='h1', user='anna', address='192.0.2.7', role='full', caller=caller, method='POST',
             route=route, version='trial', id='0' * 16, body=body)
-        outcome = entries.decided(route, status, answer, chain)
-        self.archive.add(entries.written(entry, KEY), entry, outcome)
+        outcome = entries.outcome_after(route, status, answer, chain)
+        self.archive.add(entries.entry_line(entry, KEY), entry, outcome)
 
     def copy(self, db: Path) -> Path:
         """A copy of a database at the end of the archive."""
@@ -663,8 +663,8 @@ def test_an_archive_of_months_is_cut_at_any_entry(tmp_path: Path, last: int) -> 
             n=number, prev=prev, time=f'2025-{month}-01T09:00:00.000000Z', host='h1', user='',
             address='', role='full', caller='ISSUER', method='POST', route='/v1/requests',
             version='trial', id='0' * 16, body=opened_holder(number))
-        archive.add(entries.written(entry, KEY), entry,
-                    entries.decided('/v1/requests', 200, ACCEPTED, chain))
+        archive.add(entries.entry_line(entry, KEY), entry,
+                    entries.outcome_after('/v1/requests', 200, ACCEPTED, chain))
         assert archive.last
         prev, chain = archive.last.hash, archive.last.outcome.chain
     compress(state / 'archive')
@@ -690,7 +690,7 @@ def line_after(point: position.Position) -> bytes:
         n=point.n + 1, prev=point.hash, time='2025-03-02T09:00:00.000000Z', host='h1', user='',
         address='', role='full', caller='ISSUER', method='VERSION', route='', version='trial',
         id='0' * 16, body=b'trial')
-    return entries.written(entry, KEY)
+    return entries.entry_line(entry, KEY)
 
 
 # ------------------------------------------------------------------ where the book begins
@@ -734,7 +734,7 @@ def test_a_log_begun_over_a_registry_places_the_beginning_of_the_book(
     assert os.geteuid() != 0 or (book / 'first/registry.db').stat().st_uid == NOBODY
     told.write_text('as it was\n')
     line = line_after(position.Position(0, 'f' * 64, '-'))
-    outcome = entries.decided('', 200, b'', entries.NO_CHAIN)
+    outcome = entries.outcome_after('', 200, b'', entries.NO_CHAIN)
     Archive(state / 'archive').add(line, entries.read_entry(line), outcome)
     first_copy(tmp_path, db)
     assert told.read_text() == 'as it was\n'

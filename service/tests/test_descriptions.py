@@ -18,7 +18,7 @@ from hypothesis import strategies
 from made_book import DEVICE
 from made_book import HEADER
 from made_book import Made
-from goo_service.common.rules import ISSUER
+from goo_service.rules.commands import ISSUER
 
 RECORDS = Description('records.yaml')
 OPERATIONS = pytest.mark.parametrize('operation', RECORDS.operations,

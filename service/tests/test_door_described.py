@@ -25,9 +25,9 @@ from front import ask
 from front import post
 from front import request
 from front import sent
-from goo_service.records import web
 from house import SERVICE
 from loopback import Place
+from made_book import routes_of
 from service_commands import command
 
 OUTSIDE, RECORDS = Description('openapi-outside.yaml'), Description('records.yaml')
@@ -191,7 +191,7 @@ def test_the_description_is_served_to_who_signed_in(place: Place) -> None:
 
 def test_no_route_of_the_records_lets_in_nobody(place: Place, tmp_path: Path) -> None:
     """Nor a wrong password, or a user who only declares."""
-    own = web.Service(tmp_path, tmp_path)
+    own = routes_of(tmp_path)
     paths = [*own.lists, *own.others, *(f'{name}/1' for name in own.ones)]
     before = len(place.records.heads)
     for path in (f'/records/v1/{path}' for path in paths):

@@ -118,7 +118,8 @@ def test_a_forged_caller_sees_no_audit(place: Place, name: str) -> None:
 
 def test_behind_nginx_six_fields_come_and_none_of_the_visitors(place: Place) -> None:
     text = request('GET', STATEMENT, 'anna', GOO_Caller='VOLT', GOO_User='forged',
-                   GOO_Role='forged', GOO_Address='forged', X_Own='forged')
+                   GOO_Role='forged', GOO_Address='forged', X_Own='forged', GOO_Way='forged',
+                   GOO_Hold='s1', GOO_Accounts='2', GOO_Confirmed='forged', GOO_Subject='CN=office')
     answer = sent(place, text.replace(b'\r\n', b'\r\nGOO-Caller: ISSUER\r\n', 1))
     assert answer.status == 200 and b'holder SUN' in answer.body
     assert fields(place) == {'Connection': 'close', 'Host': 'goo', 'GOO-Caller': 'SUN',

@@ -6,11 +6,11 @@ from fractions import Fraction
 from pathlib import Path
 
 import pytest
-from goo_service.common.rules import ISSUER
 from goo_service.people import doubts
 from goo_service.people.doubts import Device
 from goo_service.people.doubts import Period
 from goo_service.people.doubts import Row
+from goo_service.rules.commands import ISSUER
 from house import SERVICE
 from house import House
 from hypothesis import given

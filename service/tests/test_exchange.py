@@ -258,9 +258,9 @@ def test_what_is_damaged_is_made_anew_from_the_registry(side: Side) -> None:
     file.write_text('half a not')
     (side.folder / 'outbox/09/2.sig').unlink()
     outbox = side.visit().ours.outbox
-    assert outbox.damaged() == [file, file.with_name('2')]
+    assert outbox.damaged_files() == [file, file.with_name('2')]
     assert len(list(outbox.publish(registry))) == 2
-    assert side.visit().ours.outbox.damaged() == []
+    assert side.visit().ours.outbox.damaged_files() == []
     assert file.read_text() == registry.sent[0]
 
 
@@ -623,7 +623,7 @@ def test_our_accounts_are_published_signed_for_each_peer_and_taken_away(side: Si
         text = outbox.place(peer, 'accounts').read_text()
         assert text == accounts_text(sender=OURS, addressee=peer)
         assert is_signed(text, outbox.place(peer, 'accounts.sig').read_text(), side.key.public)
-    assert Outbox(side.folder / 'outbox', OURS, side.key).damaged() == []
+    assert Outbox(side.folder / 'outbox', OURS, side.key).damaged_files() == []
     assert accounts.publish(None, outbox, [8, 9]) == []
     assert not list((side.folder / 'outbox').glob('*/accounts*'))
 

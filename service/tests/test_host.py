@@ -665,10 +665,12 @@ def test_a_service_is_shut_in(name: str) -> None:
 
 def test_all_that_can_be_enabled_is_started_by_set_up_or_by_the_operator() -> None:
     installed = {name for name, lines in UNITS.items() if 'WantedBy' in lines}
-    by_operator = {'goo-ship.service', 'goo-exchange.timer', 'goo-etcd.service', common.ON_ONE}
-    by_socket = {'goo-records-web.service', 'goo-records-verify.service'}
+    by_operator = {'goo-ship.service', 'goo-exchange.timer', 'goo-etcd.service', common.ON_ONE,
+                   *common.OF_PEOPLE}
+    by_socket = {'goo-records-web.service', 'goo-records-verify.service', 'goo-people-who.service',
+                 'goo-people-web.service', 'goo-people-gate.service'}
     assert installed - by_operator - set(common.EVERYWHERE) <= by_socket
-    assert set(common.EVERYWHERE) <= set(UNITS)
+    assert {*common.EVERYWHERE, *common.OF_PEOPLE} <= set(UNITS)
     assert set(common.NEWER) <= set(common.EVERYWHERE)
 
 

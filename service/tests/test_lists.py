@@ -8,9 +8,9 @@ from dataclasses import field
 from typing import Any
 
 import pytest
-from goo_service.records.parameters import page_parameter
 from house import Country
 from house import House
+from made_book import page_parameter
 from mutations import gsrn
 
 COUNT = 7

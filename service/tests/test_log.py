@@ -54,7 +54,7 @@ def lines_of(count: int) -> Iterator[tuple[entries.Entry, bytes]]:
     prev = 64 * '0'
     for n in range(1, count + 1):
         entry = entry_of(n, prev, BODY % n)
-        line = entries.written(entry, KEY)
+        line = entries.entry_line(entry, KEY)
         prev = entries.hash_of(line)
         yield entry, line
 
@@ -74,7 +74,7 @@ def close(archive: Archive) -> None:
 def archive_of(folder: Path, count: int) -> Path:
     archive, chain = Archive(folder), entries.NO_CHAIN
     for entry, line in lines_of(count):
-        outcome = entries.decided(entry.route, 200, ACCEPTED % entry.n, chain)
+        outcome = entries.outcome_after(entry.route, 200, ACCEPTED % entry.n, chain)
         archive.add(line, entry, outcome)
         chain = outcome.chain
     archive.sync()
@@ -170,8 +170,8 @@ def test_a_file_with_the_beginning_of_its_first_line_alone_is_emptied(tmp_path: 
     assert archive.last and archive.last.entry.n == 9
     assert (tmp_path / '2026-04.jsonl').read_bytes() == b''
     entry = entry_of(10, archive.last.hash, BODY % 10)      # of March, by a clock that was set back
-    archive.add(entries.written(entry, KEY), entry,
-                entries.decided(entry.route, 200, ACCEPTED % 10, archive.last.outcome.chain))
+    archive.add(entries.entry_line(entry, KEY), entry,
+                entries.outcome_after(entry.route, 200, ACCEPTED % 10, archive.last.outcome.chain))
     close(archive)
     assert [one.entry.n for one in entries.read_archive(tmp_path, 0, KEY)] == list(range(1, 11))
 
@@ -201,8 +201,8 @@ def long_archive(folder: Path, rows: int) -> Path:
     for n in (1, 2):
         prev = entries.hash_of(line) if line else 64 * '0'
         entry = entry_of(n, prev, body, TABLE) if n > 1 else entry_of(1, prev, BODY % 1)
-        line = entries.written(entry, KEY)
-        outcome = entries.decided(entry.route, 200, report if n > 1 else ACCEPTED % 1, chain)
+        line = entries.entry_line(entry, KEY)
+        outcome = entries.outcome_after(entry.route, 200, report if n > 1 else ACCEPTED % 1, chain)
         archive.add(line, entry, outcome)
         chain = outcome.chain
     archive.sync()
@@ -329,8 +329,8 @@ def test_the_length_of_a_line_is_known_before_it_is_written(body: bytes) -> None
     """And the line is JSON of the members that docs/REPLICAS.md names, with the body as it came."""
     entry = entry_of(10 ** 9, 64 * 'a', body)
     member = entries.body_member(body).encode()
-    line = entries.written(entry, KEY, member)
-    assert line == entries.written(entry, KEY)
+    line = entries.entry_line(entry, KEY, member)
+    assert line == entries.entry_line(entry, KEY)
     assert entries.length(entry, member) == len(line)
     said = json.loads(line)
     assert list(said) == ['entry', 'mac'] and list(said['entry'])[:-1] == [

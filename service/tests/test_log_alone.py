@@ -204,7 +204,7 @@ def older_log(state: Path) -> None:
     for n, role in enumerate(('', 'reads', 'full'), 2):
         entry = entries.Entry(n, entries.hash_of(line), entries.now(), 'h1', 'paula', '', role,
                               'ISSUER', 'POST', '/v1/requests', 'trial', f'{n}', REQUEST % n)
-        line = entries.written(entry, KEY)
+        line = entries.entry_line(entry, KEY)
         with open(file, 'ab') as log:
             log.write(line + b'\n')
 
@@ -266,6 +266,34 @@ def test_a_start_on_a_full_disk_with_torn_ends(folder: Path) -> None:
         assert log.send(REQUEST % 8).status == 503
         assert 'disk of the log is full' in log.health()['why']
         assert 'Traceback' not in log.said()
+
+
+# ------------------------------------------------------------------ the way of signing in
+
+@pytest.mark.parametrize('over_etcd', [False, True])
+def test_an_entry_names_the_way_and_the_second_user_but_over_etcd(folder: Path,
+                                                                  over_etcd: bool) -> None:
+    """A host of before could read no such entry, and over etcd there may be one."""
+    with Alone(folder, etcd_words=[] if over_etcd else None) as log:
+        assert log.ask('POST', '/v1/requests', REQUEST % 1, GOO_User='anna',
+                       GOO_Way='token nightly', GOO_Confirmed='ben').status == 200
+        assert log.send(REQUEST % 2).status == 200
+        named, plain = [record.entry for record in log.records()][-2:]
+        assert (named.user, named.way, named.confirmed) == (
+            ('anna', '', '') if over_etcd else ('anna', 'token nightly', 'ben'))
+        assert (plain.way, plain.confirmed) == ('', '')
+        log.restart()
+        assert log.send(REQUEST % 3).status == 200
+
+
+@pytest.mark.parametrize('name', ['GOO-Way', 'GOO-Confirmed', 'GOO-Accounts'])
+def test_a_field_that_stands_twice_leaves_no_caller(log: Alone, name: str) -> None:
+    with socket.socket(socket.AF_UNIX) as s:
+        s.connect(str(log.door))
+        head = ('POST /v1/requests HTTP/1.1\r\nHost: goo\r\nGOO-Caller: ISSUER\r\n'
+                f'GOO-Role: full\r\n{name}: 1\r\n{name}: 2\r\n')
+        s.sendall(f'{head}Content-Length: {len(REQUEST % 9)}\r\n\r\n'.encode() + REQUEST % 9)
+        assert s.recv(100).startswith(b'HTTP/1.1 403')
 
 
 # ------------------------------------------------------------------ over etcd

@@ -32,7 +32,8 @@ def test_an_entry_by_another_key_is_not_taken(tmp_path: Path) -> None:
     folder = tmp_path / 'log'
     file = log_of(folder, 3)
     *_, (_, last) = lines_of(3)
-    forged = entries.written(entry_of(4, entries.hash_of(last), b'{}'), b'another key of someone')
+    entry = entry_of(4, entries.hash_of(last), b'{}')
+    forged = entries.entry_line(entry, b'another key of someone')
     file.write_bytes(file.read_bytes() + forged + b'\n')
     with pytest.raises(entries.Broken, match='keyed hash'):
         file_store.FileStore(folder, KEY)
@@ -79,8 +80,8 @@ def test_bodies_of_any_bytes_come_back_over_months(bodies: list[bytes], turn: in
         for n, body in enumerate(bodies, 1):
             month = '2026-02-28' if n <= turn else '2026-03-01'
             entry = entry_of(n, prev, body)._replace(time=f'{month}T09:00:00.{n:06}Z')
-            line = entries.written(entry, KEY)
-            outcome = entries.decided(entry.route, 200, b'{}', chain)
+            line = entries.entry_line(entry, KEY)
+            outcome = entries.outcome_after(entry.route, 200, b'{}', chain)
             archive.add(line, entry, outcome)
             prev, chain = entries.hash_of(line), outcome.chain
         archive.sync()

@@ -49,7 +49,7 @@ class Client:
         self.told.append((answer.status, fields))
 
     def request(self) -> Waiting:
-        call = Call('POST', '/v1/requests', self.caller, 'u', 'a', 'full', '', b'{}')
+        call = Call('POST', '/v1/requests', self.caller, 'u', 'a', 'full', body=b'{}')
         return Waiting(call, self.reply, size=self.size)
 
 
@@ -124,7 +124,7 @@ USER = '"caller":"X"'
 def line_of(n: int, caller: str, moment: datetime.datetime = NOW, user: str = USER) -> bytes:
     entry = Entry(n, 'p', moment.isoformat(timespec='microseconds')[:26] + 'Z', 'h', user,
                   'a', 'full', caller, 'POST', '/v1/requests', 'v', 'id', b'"caller":"Y"')
-    return entries.written(entry, KEY)
+    return entries.entry_line(entry, KEY)
 
 
 Sends = list[tuple[str, str, bool]]

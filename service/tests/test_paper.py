@@ -6,7 +6,6 @@ from pathlib import Path
 from typing import Any
 
 import pytest
-from goo_service.common.rules import ISSUER
 from goo_service.records import body
 from goo_service.records import code_lists
 from goo_service.records import letters
@@ -17,6 +16,7 @@ from goo_service.records.code_lists import read_lists
 from goo_service.records.paper import Writer
 from goo_service.records.paper import joined
 from goo_service.records.paper_words import GERMAN
+from goo_service.rules.commands import ISSUER
 from hypothesis import given
 from hypothesis import strategies
 from made_book import PLANT

@@ -5,11 +5,11 @@ from pathlib import Path
 from typing import Any
 
 import pytest
-from goo_service.common.rules import ISSUER
 from goo_service.records import settings
 from goo_service.records import web
 from goo_service.records.parties import Tries
 from goo_service.records.parties import TooMany
+from goo_service.rules.commands import ISSUER
 from made_book import Made
 
 PEERS = {'peers': [{'registry': 9, 'accounts': [{'account': 5, 'holder': 'NORD', 'name': 'Nord'}]},

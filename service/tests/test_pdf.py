@@ -214,7 +214,7 @@ def test_one_pdf_at_a_time(made: Made, monkeypatch: pytest.MonkeyPatch) -> None:
         assert may_end.wait(60)
         yield b'%PDF-'
 
-    monkeypatch.setattr('goo_service.records.web.pdfs', slow)
+    monkeypatch.setattr('goo_service.records.routes.pdfs', slow)
     client: Callable[[], Any] = made.client().application.test_client
     ask = {'numbers': '1', 'format': 'pdf'}
     first: list[int] = []

@@ -9,9 +9,9 @@ from typing import Any
 
 import openpyxl  # type: ignore[import]
 import pytest
-from goo_service.common.rules import ISSUER
 from goo_service.records import plan_file
 from goo_service.records import plan_words
+from goo_service.rules.commands import ISSUER
 from made_book import DEVICE
 from made_book import OWN
 from made_book import Made

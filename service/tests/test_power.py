@@ -298,12 +298,12 @@ import os as _os
 _sync = _os.fdatasync
 _os.fdatasync = lambda file: ('/%s/' in _os.readlink(f'/proc/self/fd/{file}')) or _sync(file)
 """
-ADDS = """            if self.store.add([texts[0][0]], end, last)[0]:
+ADDS = """            if replica.store.add([texts[0][0]], end, last)[0]:
                 request.entry = last.n
-                self.give(texts)
+                replica.feeder.send_some(texts)
 """
-GIVES_FIRST = """            self.give(texts)
-            if self.store.add([texts[0][0]], end, last)[0]:
+GIVES_FIRST = """            replica.feeder.send_some(texts)
+            if replica.store.add([texts[0][0]], end, last)[0]:
                 request.entry = last.n
 """
 
@@ -316,9 +316,9 @@ def service(tmp_path: Path) -> Path:
 def make_small(service: Path) -> None:
     """Files of the log end after some entries, and go soon after all of them are archived."""
     plant(service, 'goo_service/log/file_store.py', 'SIZE = 16 << 20', 'SIZE = 3 << 10')
-    plant(service, 'goo_service/log/replica.py',
-          "await asyncio.sleep(60)\n            self.applier.send('sync')",
-          "await asyncio.sleep(0.1)\n            self.applier.send('sync')")
+    plant(service, 'goo_service/log/upkeep.py',
+          "await asyncio.sleep(60)\n            self.replica.applier.send('sync')",
+          "await asyncio.sleep(0.1)\n            self.replica.applier.send('sync')")
 
 
 def test_what_was_acknowledged_is_there() -> None:
@@ -339,7 +339,7 @@ def test_a_folder_that_is_never_synced_is_seen(folder: str, service: Path) -> No
 
 def test_an_entry_applied_before_the_log_is_synced_is_seen(service: Path) -> None:
     """The registry has to be done before the sync is, which it may not be on a busy machine."""
-    plant(service, 'goo_service/log/replica.py', ADDS, GIVES_FIRST)
+    plant(service, 'goo_service/log/appender.py', ADDS, GIVES_FIRST)
     with pytest.raises(Lost):
         for seed, slow in ((3, 0.04), (6, 0.08), (7, 0.2)):
             try_power(service, seed, slow)

@@ -8,8 +8,8 @@ from typing import Any
 
 import pytest
 import readings
-from goo_service.records import table_rows
 from goo_service.common import tables
+from goo_service.records import table_rows
 from made_book import DEVICE
 from made_book import HEADER
 from made_book import OWN
@@ -19,7 +19,7 @@ from mutations import gsrn
 from mutations import lot
 from mutations import part
 from goo_service.records.queue import Ahead
-from goo_service.common.rules import ISSUER
+from goo_service.rules.commands import ISSUER
 
 MOST = 1_048_576
 """Bytes of one request, by docs/FORMATS.md."""

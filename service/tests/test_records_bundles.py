@@ -8,11 +8,14 @@ from typing import Any
 import pytest
 from goo_service.records import feed
 from goo_service.records import web
-from goo_service.common.rules import ISSUER
+from goo_service.records.timed import Limits
+from goo_service.rules.commands import ISSUER
 from hypothesis import given
 from hypothesis import strategies as some
 from made_book import Made
 from made_book import OWN
+from made_book import PLANT
+from mutations import gsrn
 
 WHOLE = '/v1/bundles?whole=yes'
 ACTS = '/records/v1/acts'
@@ -46,6 +49,17 @@ def test_each_line_is_an_act_of_its_bundle(made: Made) -> None:
                     (2, 1, None, 'transfer', 'refused', 'b', 0),
                     (1, 1, None, 'transfer', 'accepted', 'a', 5)]
     assert {of['bundle'] for of in made.acts()} == {made.last, None}
+
+
+def test_a_device_of_electricity_may_say_so(made: Made) -> None:
+    """What may be left out of a request, and is kept without it."""
+    plant = {**PLANT, 'device': gsrn(12), 'carrier': 'electricity'}
+    one, other = ({'command': 'register_device', 'key': 'd', **of} for of in (
+        plant, {name: value for name, value in plant.items() if name != 'carrier'}))
+    assert [of['outcome'] for of in made.send_bundle(ISSUER, [one])] == ['accepted']
+    assert made.send_bundle(ISSUER, [other])[0]['outcome'] == 'repeated'
+    devices = {of['gsrn']: of['carrier'] for of in made.items(ISSUER, 'devices')}
+    assert devices[gsrn(12)] == 'electricity'
 
 
 def test_a_bundle_that_is_repeated_is_no_further_act(made: Made) -> None:
@@ -221,7 +235,7 @@ def test_few_wait_at_once_and_each_user_once(made: Made) -> None:
             pass
     assert waiting.users == set()
     made.book().close()
-    app = web.application(made.folder, made.folder / 'state.json', web.Limits(waiting=0))
+    app = web.application(made.folder, made.folder / 'state.json', Limits(waiting=0))
     answer = app.test_client().get(ACTS, query_string={'after': made.last, 'wait': 1},
                                    headers={'GOO-Caller': ISSUER})
     assert answer.status_code == 503 and answer.headers['Retry-After'] == '10'

@@ -30,10 +30,10 @@ from acts_by_chance import follow
 from archives import make_archive
 from client import answered
 from client import request
-from goo_service.common.rules import ISSUER
-from goo_service.common.rules import PLACES
 from goo_service.log import entries
 from goo_service.records import acts as acts_module
+from goo_service.rules.certificates import PLACES
+from goo_service.rules.commands import ISSUER
 from loopback import program
 import viewers
 from viewers import has_text
@@ -169,8 +169,9 @@ def test_each_request_is_an_act_with_its_outcome_and_a_repeated_one_is_none(made
     assert told.pop('repeated') and told == shown
     for act in acts:
         entry = made.records[act['entry'] - 1].entry
-        assert [act[name] for name in ('user', 'role', 'time', 'caller')] == [
-            entry.user, entry.role, entry.time, entry.caller]
+        assert [act[name] for name in ('user', 'role', 'way', 'confirmed', 'time', 'caller')] == [
+            entry.user, entry.role, entry.way or None, entry.confirmed or None, entry.time,
+            entry.caller]
 
 
 def test_what_a_role_did_not_allow_is_told_as_that(made: Made) -> None:

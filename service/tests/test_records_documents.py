@@ -5,17 +5,17 @@ from pathlib import Path
 from typing import Any
 
 import pytest
-from goo_service.common.rules import ISSUER
 from goo_service.records.certificates import chosen_of
 from goo_service.records.documents import check_code
 from goo_service.records.documents import is_code
 from goo_service.records.files import csv_of
-from goo_service.records.parameters import page_parameter
+from goo_service.rules.commands import ISSUER
 from hypothesis import given
 from hypothesis import settings
 from hypothesis import strategies
 from made_book import DEVICE
 from made_book import Made
+from made_book import page_parameter
 
 KEY = b'0' * 64
 LETTERS = 'ABCDEFGHIJKLMNOPQRSTUVWXYZ234567'

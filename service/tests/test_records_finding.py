@@ -11,16 +11,16 @@ from typing import Any
 
 import openpyxl  # type: ignore[import]
 import pytest
-from goo_service.common.rules import ISSUER
 from goo_service.log import entries
 from goo_service.records import lists
-from goo_service.records import web
 from goo_service.records.pages import paged_by
-from goo_service.records.parameters import page_parameter
 from goo_service.records.questions import Conditions
 from goo_service.records.questions import FILES
+from goo_service.rules.commands import ISSUER
 from made_book import Made
 from made_book import PLANT
+from made_book import page_parameter
+from made_book import routes_of
 from mutations import gsrn
 
 USE = {'use_first': '2025-01-01', 'use_last': '2025-12-31'}
@@ -284,7 +284,7 @@ NEEDED: dict[str, dict[str, object]] = {'choice': {'account': 1, 'count': 1}}
 
 
 def test_a_workbook_says_what_the_csv_says(named: Made) -> None:
-    for name in web.Service(named.folder, named.folder).lists:
+    for name in routes_of(named.folder).lists:
         given = NEEDED.get(name, {})
         plain = rows_of_csv(answer_of(named, name, format='csv', **given).get_data(as_text=True))
         sheet = rows_of_sheet(answer_of(named, name, format='xlsx', **given).get_data())

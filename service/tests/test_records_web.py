@@ -7,11 +7,15 @@ from typing import Any
 
 import pytest
 from goo_service.records import follow
+from goo_service.records import keys
 from goo_service.records import parameters
 from goo_service.records import web
+from goo_service.records.timed import Limits
+from goo_service.records.timed import TooLong
 from made_book import HEADER
 from made_book import Made
-from goo_service.common.rules import ISSUER
+from made_book import routes_of
+from goo_service.rules.commands import ISSUER
 
 ROUTES = {'acts/NUMBER': 'acts/1', 'certificates/NUMBER': 'certificates/7000000000001',
           'cancellations/NUMBER': 'cancellations/1', 'attachments/NUMBER': 'attachments/1'}
@@ -44,7 +48,7 @@ def made(tmp_path: Path) -> Made:
 @pytest.mark.parametrize('route', parameters.PARAMETERS)
 def test_a_parameter_that_no_route_has_is_named(made: Made, route: str) -> None:
     given, client = {**NEEDED.get(route, {})}, made.client()
-    ask = client.post if route in web.Service(made.folder, made.folder).posted else client.get
+    ask = client.post if route in routes_of(made.folder).posted else client.get
     head = {'GOO-Caller': ISSUER}
     other = {'acts': 'offset', 'holdings': 'after'}.get(route, 'before')
     for name in ('tecnology', 'Account', 'limit ', other):
@@ -89,7 +93,7 @@ def test_an_account_that_is_none_has_nothing(made: Made, name: str) -> None:
 
 
 def test_limit_and_offset_go_through_each_list(made: Made) -> None:
-    for name in web.Service(made.folder, made.folder).lists:
+    for name in routes_of(made.folder).lists:
         if name == 'choice':
             continue
         more: dict[str, object] = {'by': 'run'} if name == 'holdings' else {}
@@ -109,7 +113,7 @@ def file_of(made: Made, name: str, **parameters: object) -> list[dict[str, str]]
 
 
 def test_a_file_has_the_rows_of_the_list(made: Made) -> None:
-    for name in web.Service(made.folder, made.folder).lists:
+    for name in routes_of(made.folder).lists:
         parameters = NEEDED.get(name, {})
         shown = made.asked(ISSUER, f'/records/v1/{name}', **parameters)[1]['items']
         file = file_of(made, name, **parameters)
@@ -145,7 +149,7 @@ def test_a_file_is_written_as_it_is_read(made: Made) -> None:
 def slow_client(made: Made, **limits: Any) -> Any:
     made.book().close()
     files = made.folder / 'state.json'
-    return web.application(made.folder, files, web.Limits(**limits)).test_client()
+    return web.application(made.folder, files, Limits(**limits)).test_client()
 
 
 HEAD = {'GOO-Caller': ISSUER}
@@ -181,7 +185,7 @@ def test_a_file_whose_time_ends_within_is_no_whole_file(made: Made,
     assert answer.status_code == 200
     assert next(parts).startswith(b'id,')
     later = time.monotonic() + 700
-    with monkeypatch.context() as clock, pytest.raises(web.TooLong):
+    with monkeypatch.context() as clock, pytest.raises(TooLong):
         clock.setattr(time, 'monotonic', lambda: later)
         list(parts)
     answer.close()
@@ -214,7 +218,7 @@ def test_a_key_is_made_whole_and_once(tmp_path: Path) -> None:
     (tmp_path / '.code.key.part').write_text('what a crash left')
     follow.make_key(path)
     key = path.read_text()
-    assert len(key) == web.KEY + 1
+    assert len(key) == keys.KEY + 1
     assert path.stat().st_mode & 0o777 == 0o640
     follow.make_key(path)
     assert path.read_text() == key

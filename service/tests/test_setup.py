@@ -2,6 +2,7 @@
 import argparse
 import io
 import os
+import re
 from collections.abc import Iterator
 from pathlib import Path
 
@@ -15,6 +16,7 @@ from goo_service.copies import host
 from goo_service.copies import new_log
 from goo_service.copies import restore
 from goo_service.copies.places import Place
+from goo_service.copies.places import read_place
 from goo_service.copies.places import write_place
 from goo_service.records.body import Body
 from goo_service.records.body import read_body
@@ -246,6 +248,13 @@ def test_nginx_gets_its_connections() -> None:
     assert running.with_connections(conf) == conf.replace('768', '16384')
 
 
+def test_the_users_of_the_package_can_be_made() -> None:
+    """A colon ends a field of /etc/passwd: systemd-sysusers refuses the file that has one."""
+    texts = [path.read_text(encoding='utf-8') for path in (SHARE / 'sysusers').iterdir()]
+    described = re.findall(r'(?m)^u +\S+ +- +"([^"]*)"', '\n'.join(texts))
+    assert len(described) > 5 and not [text for text in described if ':' in text]
+
+
 # ------------------------------------------------------------------ back to a copy
 
 @pytest.fixture
@@ -312,6 +321,24 @@ def test_what_is_left_to_do_follows_from_the_plan() -> None:
     steps = anew.steps_left(3, ['x'])
     assert steps[0] == 'x' and steps[-2].startswith('goo-copies restore --open')
     assert steps.index(restore.SETTLE) < steps.index(restore.SEND_AGAIN)
+    back = restore.Plan(Path('c'), new_log=True, as_copied=True)
+    assert restore.SEND_AGAIN not in back.steps_left(3, []), 'what was undone is not sent again'
+
+
+@pytest.mark.parametrize(('as_copied', 'n'), [(True, 20), (False, 27)])
+def test_a_copy_may_stay_as_it_was_copied(copies: Path, monkeypatch: pytest.MonkeyPatch,
+                                          as_copied: bool, n: int) -> None:
+    """With an archive that has entries up to 27: of which nothing is applied, or all."""
+    def bring_up(*given: object) -> Place:
+        return Place(27, 'd', 'e', 'c')
+
+    (host.STATE / 'archive').mkdir()
+    monkeypatch.setattr(host, 'KEY', copies / 'key')
+    (copies / 'key').write_text('a key of the log')
+    monkeypatch.setattr(new_log, 'readable_end', lambda *_: (27, 'the archive ends there'))
+    monkeypatch.setattr(new_log, 'bring_up', bring_up)
+    placed = new_log.brought_up(copies, going_back.folder_of('2026-03-02T020000Z'), as_copied)
+    assert placed and read_place(placed).n == n
 
 
 def test_what_there_was_of_a_log_is_kept_also_where_it_was_cut_off(copies: Path) -> None:

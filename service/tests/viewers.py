@@ -14,9 +14,9 @@ from typing import Any
 from acts_by_chance import ACCOUNTS
 from acts_by_chance import HOLDERS
 from acts_by_chance import Service
-from goo_service.common.rules import ISSUER
 from goo_service.records.acts import ACT_FILTERS
 from goo_service.records.acts import OWN_ALONE
+from goo_service.rules.commands import ISSUER
 
 Row = dict[str, Any]
 Rows = dict[str, list[Row]]
@@ -33,7 +33,7 @@ class Viewer:
 STRANGER = 'STRANGER'
 VIEWERS = [Viewer(code, frozenset(account for account, of in ACCOUNTS.items() if of == code))
            for code in (*HOLDERS, STRANGER)]
-HIDDEN = {'user', 'role', 'key', 'count', 'ranges', 'ranges_in_all', 'stands'}
+HIDDEN = {'user', 'role', 'way', 'confirmed', 'key', 'count', 'ranges', 'ranges_in_all', 'stands'}
 """Members of an act that some see and others don't, or not all of them."""
 SOME = 25
 """Numbers that each viewer asks for, of his own and of others."""
@@ -100,7 +100,7 @@ def tells_of_others(row: Row, viewer: Viewer) -> bool:
     """Whether it tells the user or the key of another holder, or a range of others."""
     is_own = row.get('caller', viewer.code) == viewer.code
     spans = [{span['account'], span['from_account']} for span in row.get('ranges', ())]
-    return (not is_own and any(row.get(name) for name in ('user', 'role', 'key'))
+    return (not is_own and any(row.get(name) for name in OWN_ALONE)
             or not all(span & viewer.accounts for span in spans))
 
 

@@ -40,7 +40,7 @@ def make_archive(goo, folder, requests, code=7, today='2025-03-01', begin='2025-
             entry = entries.Entry(n=count + 1, prev=before, time=took.strftime('%Y-%m-%dT%H:%M:%S.%fZ'), host='h1', user=user, address='127.0.0.1' if user else '',
                                   role=role, caller=caller, method='POST', route=route, version='trial', id=secrets.token_hex(8), body=body)
             status, _, answer = answered(port, post(body, caller, route)) if roles.allows(role, 'POST', route, body) else FORBIDDEN
-            archive.add(entries.written(entry, key), entry, entries.decided(route, status, answer, chain))
+            archive.add(entries.entry_line(entry, key), entry, entries.outcome_after(route, status, answer, chain))
         archive.sync()
         if then:
             then(port)

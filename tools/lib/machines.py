@@ -17,7 +17,8 @@ from own_cgroup import entering, own_cgroups, remove_cgroups
 
 DEBIAN = 'bookworm'
 INSIDE = ('systemd,systemd-sysv,udev,dbus,linux-image-cloud-amd64,initramfs-tools,qemu-guest-agent,iproute2,procps,kmod,e2fsprogs,'
-          'nginx,openssl,apache2-utils,curl,logrotate,python3,sqlite3,python3-cryptography,python3-cffi-backend,python3-flask,python3-segno,python3-xlsxwriter,gunicorn,python3-aiohttp,nftables,etcd-server,etcd-client')
+          'nginx,openssl,apache2-utils,curl,logrotate,python3,sqlite3,python3-argon2,python3-bcrypt,python3-cryptography,python3-cffi-backend,python3-fido2,python3-flask,'
+          'python3-itsdangerous,python3-pyotp,python3-segno,python3-xlsxwriter,gunicorn,python3-aiohttp,nftables,etcd-server,etcd-client')
 """What is in the machine from the start: what makes it one, and what the package depends on. It has no way to more."""
 PATHS = {'PATH': '/usr/local/sbin:/usr/local/bin:/usr/sbin:/usr/bin:/sbin:/bin', 'HOME': '/root', 'LANG': 'C.UTF-8', 'DEBIAN_FRONTEND': 'noninteractive'}
 NAME = 'registry.example'

@@ -1,4 +1,4 @@
-"""What the registry has to answer and to show, by service/goo_service/common/rules.py and tools/lib/readings.py: for the tools that try the program by chance.
+"""What the registry has to answer and to show, by service/goo_service/rules and tools/lib/readings.py: for the tools that try the program by chance.
 
 Both were written from docs/REGISTRY.md and docs/FORMATS.md, apart from the program. A Model reads bytes, carries out what they ask for, and gives each answer
 byte for byte: outcomes of lines, reports of tables, responses over HTTP, statements, documents and the audit, and the rows that the tables have to have.
@@ -14,11 +14,17 @@ TOP = Path(__file__).resolve().parents[2]
 sys.path.insert(0, os.environ.get('GOO_SERVICE', str(TOP / 'service')))
 import mutations
 import readings
-from goo_service.copies import expected
 from client import response
+from goo_service.copies import expected
+from goo_service.rules.certificates import PLACES
+from goo_service.rules.certificates import joined
+from goo_service.rules.commands import ISSUER
+from goo_service.rules.lots import LOT
+from goo_service.rules.refusals import Again
+from goo_service.rules.refusals import Wrong
+from goo_service.rules.registry import Registry
+from goo_service.rules.replies import reply
 from readings import Fault, compact
-from goo_service.common.rules import ISSUER, LOT, PLACES, Again, Registry, Wrong, joined, reply
-
 
 CODES = {name: int(code) for code, name in re.findall(r'^\| (\d+) \| `(\w+)` \|', (TOP / 'docs/REGISTRY.md').read_text(encoding='utf-8'), re.M)}
 """The number of each refusal, by the table of docs/REGISTRY.md."""

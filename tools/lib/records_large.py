@@ -16,7 +16,7 @@ from goo_service.log.archive import Archive
 from archives import KEY
 from client import answered, free_port, request
 from acts_by_chance import ACCOUNTS, CODE, DEVICES, OWN, TODAY, Requests, Service
-from goo_service.common.rules import ISSUER
+from goo_service.rules.commands import ISSUER
 import service_commands
 
 ALTERNATE, TRADED = 1_000, 30_000
@@ -62,8 +62,8 @@ def write_archive(folder, requests):
     for count, (caller, command) in enumerate(requests, 1):
         entry = entries.Entry(n=count, prev=before, time='2026-02-01T00:00:00.000000Z', host='h', user=f'user-{caller.lower()}', address='', role='full', caller=caller, method='POST',
                               route='/v1/requests', version='trial', id=f'{count:x}', body=json.dumps(command, ensure_ascii=False).encode())
-        line = entries.written(entry, KEY)
-        outcome = entries.decided(entry.route, 200, b'{"outcome":"accepted"}', chain)
+        line = entries.entry_line(entry, KEY)
+        outcome = entries.outcome_after(entry.route, 200, b'{"outcome":"accepted"}', chain)
         archive.add(line, entry, outcome)
         before, chain = entries.hash_of(line), outcome.chain
     archive.sync()

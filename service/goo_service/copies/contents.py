@@ -5,6 +5,7 @@ A copy is a folder that is named by its day and time in UTC, such as 2025-04-05T
   registry.db        the database; where a log is beside it, both belong together
   audit.txt          the audit of the program that made the copy
   exchange.tar       /var/lib/goo-exchange, if there is one
+  people.db          /var/lib/goo-people/people.db of one moment, if there is one
   records.tar        the beginning of the book of acts, /var/lib/goo-records/first, if there is one
   configuration.tar  /etc/goo, if there is one, without the files that only their owner can read
   left-out.txt       the names of those files
@@ -69,7 +70,7 @@ def copy_into(source: Path, target: int) -> None:
         shutil.copyfileobj(old, new, 1 << 20)
 
 
-def seen(files: list[Path]) -> bytes:
+def stat_files(files: list[Path]) -> bytes:
     """Which of these files are there, and what tells that one was written to, as JSON."""
     there = [(file.name, file.lstat()) for file in files if os.path.lexists(file)]
     marks = [(name, of.st_ino, of.st_size, of.st_mtime_ns) for name, of in there]
@@ -84,12 +85,12 @@ def copy_database(database: Path, folder: Path) -> None:
     """
     files = [database.with_name(f'{database.name}{tail}') for tail in ('', *LOGS)]
     try:
-        [before] = as_owner(database.parent, lambda: iter([seen(files)]))
+        [before] = as_owner(database.parent, lambda: iter([stat_files(files)]))
         names = {name for name, *_ in json.loads(before)} | {database.name}
         for file in files:
             if file.name in names:
                 copy_one(file, folder)
-        [after] = as_owner(database.parent, lambda: iter([seen(files)]))
+        [after] = as_owner(database.parent, lambda: iter([stat_files(files)]))
     except NotDone as fault:
         raise Unfit(str(fault)) from fault
     if before != after:

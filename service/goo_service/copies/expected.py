@@ -1,4 +1,4 @@
-"""What tables and texts have to hold, by a registry that was recounted (common/rules.py)."""
+"""What tables and texts have to hold, by a registry that was recounted (goo_service.rules)."""
 import collections
 import csv
 import io
@@ -6,14 +6,14 @@ from collections.abc import Iterable
 from collections.abc import Iterator
 from typing import Any
 
-from goo_service.common.rules import CANCELLED
-from goo_service.common.rules import HELD
-from goo_service.common.rules import LOT
-from goo_service.common.rules import PLACES
-from goo_service.common.rules import PLANT
-from goo_service.common.rules import Lot
-from goo_service.common.rules import Registry
-from goo_service.common.rules import Run
+from goo_service.rules.certificates import CANCELLED
+from goo_service.rules.certificates import HELD
+from goo_service.rules.certificates import PLACES
+from goo_service.rules.certificates import Run
+from goo_service.rules.lots import LOT
+from goo_service.rules.lots import PLANT
+from goo_service.rules.lots import Lot
+from goo_service.rules.registry import Registry
 
 Rows = list[tuple[Any, ...]]
 HOLDINGS = LOT[1:]

@@ -19,6 +19,8 @@ CLOSES = ('# Written by restore: nginx is no member of this group. restore --ope
           '[Socket]\nSocketGroup=goo-agent\n')
 DOOR = 'goo-door.socket'
 REGISTRY_UNIT, REPLICA, RECORDS = 'goo.service', 'goo-replica.service', 'goo-records.service'
+PEOPLE = ('goo-people-who.service', 'goo-people-web.service', 'goo-people-gate.service',
+          'goo-people-post.service')
 TIMERS = ('goo-advance.timer', 'goo-backup.timer', 'goo-exchange.timer')
 RUNS = ('goo-advance.service', 'goo-backup.service', 'goo-exchange.service')
 PATIENCE = 600

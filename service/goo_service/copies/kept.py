@@ -11,8 +11,8 @@ from dataclasses import dataclass
 from pathlib import Path
 from typing import Any
 
-from goo_service.common.rules import SERIALS
 from goo_service.copies import contents
+from goo_service.rules.lots import SERIALS
 
 VERSION = 2
 """Of the tables that are read here."""

@@ -1,9 +1,9 @@
 """A new log after one that was lost or damaged: for `goo-copies restore COPY --new-log`.
 
-The copy is brought up by each entry of the archive that can still be read. The new log begins
-there. What there was of log, archive and place stays whole in a folder `lost-TIME` of the replica's
-state: a file `done` in it says that the new log runs. Cut off, the same command reads the archive
-there.
+The copy is brought up by each entry of the archive that can still be read, or by none of them where
+it is wanted as it was copied. The new log begins there. What there was of log, archive and place
+stays whole in a folder `lost-TIME` of the replica's state: a file `done` in it says that the new
+log runs. Cut off, the same command reads the archive there.
 """
 import pathlib
 
@@ -59,15 +59,18 @@ def readable_end(archive: pathlib.Path, n: int, head: str, key: bytes | None) ->
     return last, 'the archive ends there'
 
 
-def brought_up(staged: pathlib.Path, folder: pathlib.Path) -> pathlib.Path | None:
-    """Applies what the archive still has to the staged copy; a folder with the place that it has
-    then."""
+def brought_up(staged: pathlib.Path, folder: pathlib.Path,
+               as_copied: bool) -> pathlib.Path | None:
+    """Applies what the archive still has to the staged copy, unless it stays as it was copied; a
+    folder with the place that it has then."""
     if not (folder / FILE).is_file():
         show(f'{folder} has no place in a log: nothing is applied to it')
         return None
     place, key = read_place(folder), entries.read_key(host.KEY)
     [found] = as_owner(host.STATE, lambda: iter([archive_path()]))
-    if found:
+    if as_copied:
+        show(f'the copy stays as it is, at entry {place.n}: what came later is undone')
+    elif found:
         archive = pathlib.Path(found.decode())
         last, why = readable_end(archive, place.n, place.hash, key)
         place = bring_up(undo.PROGRAM, staged, archive, place, key, last)

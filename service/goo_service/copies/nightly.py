@@ -12,6 +12,7 @@ from pathlib import Path
 
 from goo_service.copies import book
 from goo_service.copies import contents
+from goo_service.copies import people
 from goo_service.copies.places import Place
 from goo_service.copies.places import placed_copies
 from goo_service.copies.places import read_place
@@ -20,9 +21,11 @@ from goo_service.copies.replay import bring_up
 from goo_service.copies.rows import differences
 from goo_service.log.entries import Broken
 from goo_service.log.hold import held
+from goo_service.people import store
 
 EXCHANGE = Path(os.environ.get('GOO_EXCHANGE') or '/var/lib/goo-exchange')
 CONFIGURATION = Path(os.environ.get('GOO_CONFIGURATION') or '/etc/goo')
+PEOPLE = Path(os.environ.get('GOO_PEOPLE') or store.FILE)
 BEGINNING = 'records.tar'
 """Of a copy: the beginning of the book of acts."""
 HOLDS = 3
@@ -144,11 +147,13 @@ def new_copy(folder: Path, fill: Callable[[Path], Place]) -> Path:
 def archive_beside(part: Path) -> None:
     """What is in a copy beside the registry.
 
-    It is the exchange's folder, the beginning of the book of acts, and the configuration.
+    It is the exchange's folder, the file of people, the beginning of the book of acts, and the
+    configuration.
     """
     left_out = contents.owner_only(CONFIGURATION) if CONFIGURATION.is_dir() else []
     if EXCHANGE.is_dir():
         contents.archive(EXCHANGE, part / 'exchange.tar')
+    people.copy(PEOPLE, part / people.NAME)
     book.archive_beginning(part / BEGINNING)
     if CONFIGURATION.is_dir():
         contents.archive(CONFIGURATION, part / 'configuration.tar', left_out)

@@ -6,8 +6,8 @@ list of its files (SHA256SUMS) is beside it, each of them has to be there as it 
 
 The queries are those of AUDITING.md. The file keeps every accepted request. Here each of them is
 checked and carried out again, once and in their order, by the rules of docs/REGISTRY.md as
-common/rules.py has them, written down a second time. Every row of every table has to come out, and
-every answer that was given.
+goo_service.rules has them, written down a second time. Every row of every table has to come out,
+and every answer that was given.
 
 A line for each thing that was recounted begins with `holds`, `shows` or `BROKEN`; some of the rows
 at fault stand below it. The exit status is 0 where all holds, 1 where something does not, 2 for a
@@ -30,10 +30,6 @@ from dataclasses import field
 from pathlib import Path
 from typing import Any
 
-from goo_service.common.rules import Registry
-from goo_service.common.rules import Wrong
-from goo_service.common.rules import compact
-from goo_service.common.rules import joined
 from goo_service.copies import contents
 from goo_service.copies import expected
 from goo_service.copies.kept import VERSION
@@ -41,6 +37,10 @@ from goo_service.copies.kept import Beginning
 from goo_service.copies.kept import Copy
 from goo_service.copies.kept import Unreadable
 from goo_service.copies.kept import same_at_first
+from goo_service.rules.certificates import joined
+from goo_service.rules.commands import compact
+from goo_service.rules.refusals import Wrong
+from goo_service.rules.registry import Registry
 
 PAGES = (Path(__file__).resolve().parents[3] / 'docs/AUDITING.md',
          Path('/usr/share/doc/goo/AUDITING.md'))
@@ -149,7 +149,7 @@ def folder_in(into: Path | None, name: str) -> Path | None:
     return into / name
 
 
-def between(copy: Copy, other: Copy, report: Report, into: Path | None) -> None:
+def compare_registries(copy: Copy, other: Copy, report: Report, into: Path | None) -> None:
     """The queries over two registries, both ways."""
     for one, two in ((copy, other), (other, copy)):
         print(f'Between {one.code:02} and {two.code:02}, from the side of {one.code:02}')
@@ -228,7 +228,7 @@ def audit_faults(lines: list[str], other: str, text: str) -> list[str]:
             or ['the same lines, in another order or with other ends'])
 
 
-def recounted(copy: Copy, report: Report, beginning: Beginning, into: Path | None) -> None:
+def recount_copy(copy: Copy, report: Report, beginning: Beginning, into: Path | None) -> None:
     """A copy by the queries, and then from its requests."""
     print(f'Registry {copy.code:02}, date {copy.today}, by the queries of AUDITING.md')
     faults = [line for line, in copy.query('PRAGMA integrity_check') if line != 'ok']
@@ -248,7 +248,7 @@ def recounted(copy: Copy, report: Report, beginning: Beginning, into: Path | Non
             report.check(what, audit_faults(lines, other, text))
 
 
-def continued(copy: Copy, before: Copy, report: Report) -> None:
+def compare_with_earlier(copy: Copy, before: Copy, report: Report) -> None:
     """The requests of an earlier copy are the first ones of this copy."""
     kept, faults = same_at_first(before, copy)
     report.check(f'each of the copy before, of {before.today}, stands here as it stood there, '
@@ -292,11 +292,11 @@ def recount(words: Words, folder: str) -> Report:
         words.into.mkdir(parents=True)
     is_given = words.begun is not None
     beginning = Beginning(str(words.begun), True) if is_given else (before or copy).beginning()
-    recounted(copy, report, beginning, words.into)
+    recount_copy(copy, report, beginning, words.into)
     if before:
-        continued(copy, before, report)
+        compare_with_earlier(copy, before, report)
     if other:
-        between(copy, other, report, words.into)
+        compare_registries(copy, other, report, words.into)
     return report
 
 

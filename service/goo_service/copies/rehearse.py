@@ -8,7 +8,7 @@ its number, its key and the outcome that it would have. With no lines it is whet
 The caller sees to it that nobody writes to the file meanwhile.
 
 The file is copied with its log. What the bundle names is read from the copy, and the lines are
-carried out over that by the rules of common/rules.py, in memory; so a rehearsal takes no longer
+carried out over that by goo_service.rules, in memory; so a rehearsal takes no longer
 with a large registry, but for the copying. Whether a line can be read is asked of the program.
 goo-rehearsal@.service runs it for each connection to /run/goo/rehearsal.sock, as the user that owns
 the file: the replica has no right to it.
@@ -27,16 +27,17 @@ from pathlib import Path
 from typing import Any
 from typing import cast
 
-from goo_service.common.rules import ELECTRICITY
-from goo_service.common.rules import LOT
-from goo_service.common.rules import Lot
-from goo_service.common.rules import Place
-from goo_service.common.rules import Registry
-from goo_service.common.rules import Wrong
-from goo_service.common.rules import compact
 from goo_service.copies import contents
 from goo_service.log import bundles
 from goo_service.log.bundles import Line
+from goo_service.rules.certificates import Place
+from goo_service.rules.commands import compact
+from goo_service.rules.commands import plain_of
+from goo_service.rules.lots import ELECTRICITY
+from goo_service.rules.lots import LOT
+from goo_service.rules.lots import Lot
+from goo_service.rules.refusals import Wrong
+from goo_service.rules.registry import Registry
 
 ROOM = 64 << 20
 """Bytes that have to be left beside the copy."""
@@ -62,7 +63,7 @@ class TooManyRuns(Exception):
 
 # ------------------------------------------------------------------ what the bundle names
 
-def merged(spans: Iterable[Span]) -> Iterator[Span]:
+def merge_spans(spans: Iterable[Span]) -> Iterator[Span]:
     """The spans in rising order, those made one that meet."""
     begin, end = 0, -1
     for first, last in sorted(spans):
@@ -100,7 +101,7 @@ class Named(Registry):
                 self.learn_account(account)
             self.learn_holder(of.get('holder'))
             self.learn_device(of.get('device'))
-        for first, last in merged(spans_of(commands)):
+        for first, last in merge_spans(spans_of(commands)):
             self.learn_span(first, last)
 
     def learn_account(self, number: object) -> None:
@@ -135,14 +136,6 @@ class Named(Registry):
         return self.known_lots[number]
 
 
-def plain_of(line: Line) -> dict[str, Any]:
-    """The command of a line as it is kept: without its key, and without what may be left out."""
-    members: dict[str, Any] = json.loads(line.body)
-    if members.get('command') == 'register_device' and members.get('carrier') == ELECTRICITY:
-        del members['carrier']
-    return {name: value for name, value in members.items() if name != 'key'}
-
-
 # ------------------------------------------------------------------ the rehearsal
 
 def unreadable(goo: str, registry: Registry, caller: str, lines: list[Line]) -> dict[int, str]:
@@ -162,8 +155,8 @@ def unreadable(goo: str, registry: Registry, caller: str, lines: list[Line]) -> 
             if answer['outcome'] == 'unreadable'}
 
 
-def refused(registry: Named, caller: str, line: Line,
-            command: dict[str, Any]) -> dict[str, object] | None:
+def refusal_of(registry: Named, caller: str, line: Line,
+               command: dict[str, Any]) -> dict[str, object] | None:
     """The refusal that a line would have; None where it would be accepted, or is done already."""
     kept = registry.database.execute('SELECT command FROM receipt WHERE caller = ? AND key = ?',
                                      (caller, line.key)).fetchone()
@@ -178,12 +171,13 @@ def refused(registry: Named, caller: str, line: Line,
         return bundles.refusal(line, wrong.refusal, wrong.number)
 
 
-def rehearsed(database: sqlite3.Connection, goo: str, caller: str,
-              lines: list[Line]) -> dict[str, object]:
+def rehearse(database: sqlite3.Connection, goo: str, caller: str,
+             lines: list[Line]) -> dict[str, object]:
     """The answer to a bundle."""
     registry = Named(database)
     faults = unreadable(goo, registry, caller, lines)
-    commands = {line.number: plain_of(line) for line in lines if line.number not in faults}
+    commands = {line.number: plain_of(json.loads(line.body)) for line in lines
+                if line.number not in faults}
     try:
         registry.learn(list(commands.values()))
     except TooManyRuns:
@@ -191,7 +185,7 @@ def rehearsed(database: sqlite3.Connection, goo: str, caller: str,
     for line in lines:
         if fault := faults.get(line.number):
             return {'line': line.number, 'key': line.key, 'fault': fault, 'outcome': 'unreadable'}
-        if refusal := refused(registry, caller, line, commands[line.number]):
+        if refusal := refusal_of(registry, caller, line, commands[line.number]):
             return refusal
     return {'rehearsed': len(lines)}
 
@@ -235,7 +229,7 @@ def answer_of(words: Words, head: dict[str, Any], body: bytes) -> dict[str, obje
     with tempfile.TemporaryDirectory(prefix='goo-rehearsal-', dir=words.into) as folder:
         contents.copy_database(words.db, Path(folder))
         with contextlib.closing(sqlite3.connect(Path(folder, words.db.name))) as database:
-            return rehearsed(database, words.goo, str(head['caller']), lines)
+            return rehearse(database, words.goo, str(head['caller']), lines)
 
 
 def main() -> None:

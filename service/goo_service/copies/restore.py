@@ -1,7 +1,7 @@
 """Goes back to a copy of the registry, and applies the entries of the log since the copy to it.
 
-usage: goo-copies restore COPY [--before N | --new-log] [--with-configuration] [--without-list]
-                               [--although-broken]
+usage: goo-copies restore COPY [--before N | --new-log [--as-copied]] [--with-configuration]
+                               [--without-list] [--although-broken]
        goo-copies restore --open [--unsettled]
 
 COPY is a folder of /var/backups/goo, by its name or by its path; `last` is the newest one, with
@@ -31,6 +31,8 @@ set aside for good. Copies of entry N or later are renamed, so that none is used
 --new-log is for a log that was lost or damaged, on one host. The entries that the archive still has
 whole are applied, and a new log begins behind them. What there was of the log is kept beside it, in
 a folder `lost-..`. The records of acts are made anew. What was accepted later has to be sent again.
+With --as-copied nothing is applied that came after the copy: all of it is undone. It is for the way
+back from a migration, before anybody has traded.
 
 After --before and --new-log other registries may know what this one no longer does. So the exchange
 gets a new generation: restored.json has it publish and trade nothing before the peers have told
@@ -38,7 +40,8 @@ which notices of ours they have. The front door stays closed until --open, which
 too, once the exchange is settled. What is left to do is printed.
 
 /var/lib/goo-exchange is put back only where it isn't there: what is there knows more notices than
-the copy does; so is /var/lib/goo-records/first, with which the records of acts begin. Where
+the copy does; so is the file of people, and /var/lib/goo-records/first, with which the records of
+acts begin. Where
 /etc/goo differs from the copy that is printed; --with-configuration puts the copied files in place,
 and what they replace goes aside. A copy of before there was a list is taken by --without-list, and
 one that recount finds at fault by --although-broken.
@@ -62,6 +65,7 @@ from goo_service.copies import going_back
 from goo_service.copies import host
 from goo_service.copies import new_log
 from goo_service.copies import nightly
+from goo_service.copies import people
 from goo_service.copies import undo
 from goo_service.copies.host import show
 from goo_service.copies.places import FILE as PLACE
@@ -80,6 +84,7 @@ class Plan:
     copy: pathlib.Path
     before: int | None = None
     new_log: bool = False
+    as_copied: bool = False
     with_configuration: bool = False
     without_list: bool = False
     although_broken: bool = False
@@ -104,7 +109,7 @@ class Plan:
         steps = [*things, *([LOOK] if self.before else [])]
         if generation:
             steps.append(SETTLE)
-        if self.new_log:
+        if self.new_log and not self.as_copied:
             steps.append(SEND_AGAIN)
         return [*steps, 'goo-copies restore --open: opens the front door and starts the timers',
                 'systemctl start goo-advance: the date is that of the last entry']
@@ -122,7 +127,7 @@ def staged_copy(plan: Plan, ran: list[str]) -> tuple[pathlib.Path, pathlib.Path 
     if plan.before:
         undo.bring_to(staged, plan.copy, plan.before - 1)
     elif plan.new_log:
-        placed = new_log.brought_up(staged, plan.copy)
+        placed = new_log.brought_up(staged, plan.copy, plan.as_copied)
     return staged, placed
 
 
@@ -147,6 +152,9 @@ def put_back(plan: Plan, staged: pathlib.Path, placed: pathlib.Path | None,
              ran: list[str]) -> list[str]:
     """The copy becomes the registry; what is left to do."""
     going_back.put_exchange_back(plan.copy)
+    if said := people.put_back_where_none_is(plan.copy):
+        show(said)
+        host.systemctl('try-restart', *host.PEOPLE)     # each holds the file open
     if book.put_beginning_back(plan.copy / nightly.BEGINNING):
         show(f'{book.BOOK / book.FIRST}, the beginning of the book of acts, is that of the copy')
     generation = going_back.begin_generation(plan.copy) if plan.loses() else None
@@ -212,7 +220,8 @@ def parser() -> argparse.ArgumentParser:
     way = words.add_mutually_exclusive_group()
     way.add_argument('--before', type=int, metavar='N', help='undo entry N of the log')
     way.add_argument('--new-log', action='store_true', help='begin a new log')
-    for word in ('with-configuration', 'without-list', 'although-broken', 'open', 'unsettled'):
+    for word in ('as-copied', 'with-configuration', 'without-list', 'although-broken', 'open',
+                 'unsettled'):
         words.add_argument(f'--{word}', action='store_true', help=argparse.SUPPRESS)
     return words
 
@@ -225,13 +234,16 @@ def main() -> None:
         words.error('a copy, or --open')
     if given.before is not None and (given.before < 1 or given.open):
         words.error('--before: the number of an entry, with a copy')
+    if given.as_copied and not given.new_log:
+        words.error('--as-copied goes with --new-log')
     if os.geteuid():
         words.error('only root can do this')
     try:
         if given.open:
             return reopen(given.unsettled)
         restore(Plan(going_back.folder_of(given.copy, given.before), given.before, given.new_log,
-                     given.with_configuration, given.without_list, given.although_broken))
+                     given.as_copied, given.with_configuration, given.without_list,
+                     given.although_broken))
     except (contents.Unfit, NotDone, Broken, OSError, LookupError, ValueError, shutil.Error,
             subprocess.CalledProcessError) as error:
         sys.exit(f'restore: {error}')

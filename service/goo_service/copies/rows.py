@@ -40,7 +40,7 @@ class Difference:
         return f'{self.table} {self.key}: {self.here}; {self.there}'
 
 
-def opened(database: Path) -> sqlite3.Connection:
+def open_file(database: Path) -> sqlite3.Connection:
     """A file that is read, and never written."""
     connection = sqlite3.connect(f'file:{database}?mode=ro&immutable=1', uri=True)
     connection.execute(f'PRAGMA cache_size = {CACHE}')
@@ -53,7 +53,7 @@ def text_in(stored: bytes) -> str:
     return stored.decode(errors='surrogateescape')
 
 
-def named(name: str) -> str:
+def quote_name(name: str) -> str:
     """A name as it stands in SQL."""
     return '"' + name.replace('"', '""') + '"'
 
@@ -69,7 +69,7 @@ def tables_of(connection: sqlite3.Connection) -> list[Table]:
 
 
 def table_of(connection: sqlite3.Connection, name: str) -> Table:
-    rows = connection.execute(f'PRAGMA main.table_info({named(name)})').fetchall()
+    rows = connection.execute(f'PRAGMA main.table_info({quote_name(name)})').fetchall()
     columns = tuple(column for _, column, *_ in rows)
     key = tuple(column for _, column, in sorted(
         (place, column) for _, column, _, _, _, place in rows if place))
@@ -83,7 +83,7 @@ def differences(one: Path, other: Path, names: tuple[str, str]) -> Iterator[Diff
 
     `names` are what the two are called.
     """
-    with closing(opened(one)) as connection:
+    with closing(open_file(one)) as connection:
         connection.execute('ATTACH ? AS other', (f'file:{other}?mode=ro&immutable=1',))
         schemas = [connection.execute(SCHEMA.format(file)).fetchall() for file in ('main', 'other')]
         if schemas[0] != schemas[1]:
@@ -118,15 +118,16 @@ def unlike(connection: sqlite3.Connection, table: Table, here: str, there: str,
 
     With `both` also those that it has with other values, which follow.
     """
-    mine = ', '.join(f'a.{named(column)}' for column in table.columns)
-    its = ', '.join(f'b.{named(column)}' for column in table.columns)
-    same = ' AND '.join(f'a.{named(column)} IS b.{named(column)}' for column in table.columns)
-    at = ' AND '.join(f'a.{named(column)} = b.{named(column)}' for column in table.key)
-    first = named(table.key[0])
+    columns = list(map(quote_name, table.columns))
+    mine = ', '.join(f'a.{column}' for column in columns)
+    its = ', '.join(f'b.{column}' for column in columns)
+    same = ' AND '.join(f'a.{column} IS b.{column}' for column in columns)
+    at = ' AND '.join(f'a.{column} = b.{column}' for column in map(quote_name, table.key))
+    first = quote_name(table.key[0])
     unequal = f'NOT ({same})' if both else 'FALSE'
     return connection.execute(
-        f'SELECT {mine}, {its}, b.{first} IS NOT NULL FROM {here}.{named(table.name)} AS a '
-        f'LEFT JOIN {there}.{named(table.name)} AS b ON {at} '
+        f'SELECT {mine}, {its}, b.{first} IS NOT NULL FROM {here}.{quote_name(table.name)} AS a '
+        f'LEFT JOIN {there}.{quote_name(table.name)} AS b ON {at} '
         f'WHERE b.{first} IS NULL OR {unequal}')
 
 
@@ -135,7 +136,7 @@ def unlike(connection: sqlite3.Connection, table: Table, here: str, there: str,
 def digest(database: Path) -> str:
     """One hash over all rows of all tables, wherever SQLite has put the rows."""
     made = hashlib.sha256()
-    with closing(opened(database)) as connection:
+    with closing(open_file(database)) as connection:
         for table in tables_of(connection):
             made.update(f'{table.name} {", ".join(table.columns)}\n'.encode())
             for text in texts_of(connection, table):
@@ -145,8 +146,8 @@ def digest(database: Path) -> str:
 
 def texts_of(connection: sqlite3.Connection, table: Table) -> Iterator[bytes]:
     """The rows of a table in the order of its key, each as one line."""
-    columns, key = (', '.join(map(named, some)) for some in (table.columns, table.key))
-    rows = connection.execute(f'SELECT {columns} FROM {named(table.name)} ORDER BY {key}')
+    columns, key = (', '.join(map(quote_name, some)) for some in (table.columns, table.key))
+    rows = connection.execute(f'SELECT {columns} FROM {quote_name(table.name)} ORDER BY {key}')
     line = json.JSONEncoder(default=bytes.hex).encode
     for row in rows:
         yield line(row).encode() + b'\n'

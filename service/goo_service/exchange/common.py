@@ -116,11 +116,11 @@ def compact(value: object) -> str:
     return json.dumps(value, sort_keys=True, separators=(',', ':'))
 
 
-def chained(chain: str, text: str) -> str:
+def chain_after(chain: str, text: str) -> str:
     """The chain over some texts, made longer by one."""
     return hashlib.sha256((chain + text).encode()).hexdigest()
 
 
 def chain_of(texts: Iterable[str]) -> str:
     """The chain over these texts."""
-    return functools.reduce(chained, texts, '')
+    return functools.reduce(chain_after, texts, '')

@@ -67,7 +67,7 @@ def lot_of(part: Part) -> Lot | None:
         return None
 
 
-def merged(ranges: Iterable[Span]) -> list[Span]:
+def merge_spans(ranges: Iterable[Span]) -> list[Span]:
     """The same numbers in as few ranges as there can be."""
     found: list[Span] = []
     for first, last in sorted(ranges):
@@ -89,17 +89,17 @@ class Energy:
         parts = ((lot_of(part), part) for part in notice.parts if part.origin == self.peer)
         return [(lot, part.span) for lot, part in parts if lot]
 
-    def gathered(self, notice: Notice) -> dict[Period, list[Span]]:
+    def gather(self, notice: Notice) -> dict[Period, list[Span]]:
         """The ranges of each device and period, those of this notice among them."""
         found: dict[Period, list[Span]] = {}
         for lot, numbers in self.lots_of(notice):
             before = found.get(lot.period, self.known.get(lot.period, []))
-            found[lot.period] = merged([*before, numbers])
+            found[lot.period] = merge_spans([*before, numbers])
         return found
 
     def doubt_about(self, notice: Notice) -> str:
         """Why a notice is held; nothing where each device can have made what came of it."""
-        ranges = self.gathered(notice)
+        ranges = self.gather(notice)
         for lot, _ in self.lots_of(notice):
             count = sum(last - first + 1 for first, last in ranges[lot.period])
             if count > lot.most:
@@ -110,4 +110,4 @@ class Energy:
 
     def add(self, notice: Notice) -> None:
         """Notes a notice that was imported."""
-        self.known.update(self.gathered(notice))
+        self.known.update(self.gather(notice))

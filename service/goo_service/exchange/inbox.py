@@ -13,7 +13,7 @@ from pathlib import Path
 from goo_service.common.files import write_whole
 from goo_service.exchange.common import Again
 from goo_service.exchange.common import chain_of
-from goo_service.exchange.common import chained
+from goo_service.exchange.common import chain_after
 from goo_service.exchange.common import compact
 from goo_service.exchange.common import read_object
 from goo_service.exchange.common import read_text
@@ -52,9 +52,9 @@ class Inbox:
         members = read_object(self.path)
         if members is None:
             highest = 0
-            while self.fetched(highest + 1) is not None:
+            while self.text_at(highest + 1) is not None:
                 highest += 1
-            texts = (self.fetched(position) or '' for position in range(1, highest + 1))
+            texts = (self.text_at(position) or '' for position in range(1, highest + 1))
             return Record(highest=highest, chain=chain_of(texts))
         whole = {**dataclasses.asdict(Record()), **members}
         kinds = {name: type(value) for name, value in dataclasses.asdict(Record()).items()}
@@ -103,14 +103,14 @@ class Inbox:
         self.record.cursor, self.record.proved = 0, ''
         self.write()
 
-    def fetched(self, position: int) -> str | None:
+    def text_at(self, position: int) -> str | None:
         """Its notice at a position, as it was fetched; None where it was not."""
         return read_text(self.outbox.place(self.peer, f'taken-{position}'))
 
     def chain_fetched(self) -> str:
         """The chain over all that was fetched, by the files."""
         positions = range(1, self.record.highest + 1)
-        return chain_of(self.fetched(position) or '' for position in positions)
+        return chain_of(self.text_at(position) or '' for position in positions)
 
     def is_apart(self, position: int) -> bool:
         """Whether a notice was fetched and not imported."""
@@ -119,20 +119,20 @@ class Inbox:
     def was_imported(self, position: int, text: str) -> bool:
         """Whether just this text was fetched there and imported."""
         return (position <= self.record.highest and not self.is_apart(position)
-                and self.fetched(position) == text)
+                and self.text_at(position) == text)
 
     def is_settled(self, position: int, text: str) -> bool:
-        return str(position) in self.record.settled and self.fetched(position) == text
+        return str(position) in self.record.settled and self.text_at(position) == text
 
     def write_fetched(self, position: int, text: str, signature: str) -> None:
         """Keeps what was fetched: from now on the peer is shown that we have it."""
         record = self.record
         is_new = position > record.highest
-        is_changed = not is_new and self.fetched(position) not in (None, text)
+        is_changed = not is_new and self.text_at(position) not in (None, text)
         write_whole(self.outbox.place(self.peer, f'taken-{position}.sig'), signature)
         write_whole(self.outbox.place(self.peer, f'taken-{position}'), text)
         if is_new:
-            record.highest, record.chain = position, chained(record.chain, text)
+            record.highest, record.chain = position, chain_after(record.chain, text)
         elif is_changed:
             record.chain = self.chain_fetched()
 
@@ -148,7 +148,7 @@ class Inbox:
             file.unlink(missing_ok=True)
             record.waiting.pop(str(position), None)
         else:
-            write_whole(file, self.fetched(position) or '')
+            write_whole(file, self.text_at(position) or '')
             record.waiting[str(position)] = of
         record.settled.pop(str(position), None)
         record.cursor += position == record.cursor + 1
@@ -167,13 +167,13 @@ class Inbox:
         """The last notice that was imported; None where there is none."""
         for position in range(self.record.cursor, 0, -1):
             if not self.is_apart(position):
-                return Imported(position, self.fetched(position))
+                return Imported(position, self.text_at(position))
         return None
 
-    def imported(self) -> Iterator[str]:
+    def imported_texts(self) -> Iterator[str]:
         """The texts of all that was imported, as they were fetched."""
         for position in range(1, self.record.highest + 1):
-            if not self.is_apart(position) and (text := self.fetched(position)):
+            if not self.is_apart(position) and (text := self.text_at(position)):
                 yield text
 
     def state_for_peer(self) -> Incoming:

@@ -28,7 +28,7 @@ def release(visits: list[Visit], code: int, position: int) -> None:
     visit = visit_of(visits, code)
     if waiting_at(visit, position)['became'] != 'held':
         raise ValueError(f'the notice of registry {code} at position {position} is not held')
-    visit.attempt(lambda: visit.deliver(position, visit.inbox.fetched(position) or '', True))
+    visit.attempt(lambda: visit.deliver(position, visit.inbox.text_at(position) or '', True))
 
 
 def settle(visits: list[Visit], code: int, position: int) -> None:
@@ -44,7 +44,7 @@ def deliver_refused(visit: Visit) -> None:
     for position, of in visit.inbox.in_order():
         if of['became'] != 'held':
             visit.attempt(lambda position=position, of=of: visit.deliver(   # type: ignore[misc]
-                position, visit.inbox.fetched(position) or '', of['released']))
+                position, visit.inbox.text_at(position) or '', of['released']))
 
 
 def accept_generation(visits: list[Visit], code: int, number: int) -> None:

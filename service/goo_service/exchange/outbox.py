@@ -88,7 +88,7 @@ class Outbox:
         texts = [notice.text for notice in self.of(peer)[:highest] if notice]
         return chain_of(texts) if len(texts) == highest else None
 
-    def damaged(self) -> list[Path]:
+    def damaged_files(self) -> list[Path]:
         """The files that have to be written anew."""
         return [self.place(peer, position) for peer, notices in self.notices.items()
                 for position, notice in enumerate(notices, 1) if notice is None]
@@ -117,7 +117,7 @@ class Outbox:
     def publish(self, registry: Notices, anew: bool = False) -> Iterator[str]:
         """Puts each notice that isn't there yet into the folder of its addressee; a line for each.
         From the first one on where a file is damaged."""
-        is_whole = not self.damaged() and not anew
+        is_whole = not self.damaged_files() and not anew
         counts = {peer: len(notices) if is_whole else 0 for peer, notices in self.notices.items()}
         begin = 1 + (self.sent[-1].number if is_whole and self.sent else 0)
         for number in range(begin, begin + MOST):
@@ -126,10 +126,10 @@ class Outbox:
                 return
             notice = parse_notice(text)
             counts[notice.addressee] = counts.get(notice.addressee, 0) + 1
-            if self.put(notice, counts[notice.addressee]):
+            if self.write_notice(notice, counts[notice.addressee]):
                 yield f'published notice {number} for registry {notice.addressee}'
 
-    def put(self, notice: Notice, position: int) -> bool:
+    def write_notice(self, notice: Notice, position: int) -> bool:
         """Has a notice stand at its position; whether it did not before."""
         notices = self.notices.setdefault(notice.addressee, [])
         if position > len(notices):

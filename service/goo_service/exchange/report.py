@@ -73,7 +73,7 @@ def received_rows(inbox: Inbox) -> Iterator[Row]:
     record = inbox.record
     for position in range(1, record.highest + 1):
         try:
-            notice = parse_notice(inbox.fetched(position) or '')
+            notice = parse_notice(inbox.text_at(position) or '')
         except (Refused, Again):
             notice = None
         of = record.waiting.get(str(position)) or record.settled.get(str(position))

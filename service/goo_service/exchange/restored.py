@@ -196,7 +196,7 @@ class Restoring:
             return
         visit.peer.begin()
         for position in range(1, visit.state['outbox']['highest'] + 1):
-            text = visit.inbox.fetched(position) or visit.peer.fetch_notice(position).text
+            text = visit.inbox.text_at(position) or visit.peer.fetch_notice(position).text
             notice = parse_notice(text)
             needed = [bool(overlap(spans, part)[0]) for part in notice.parts]
             if any(needed) and all(is_needed or part.origin == visit.code

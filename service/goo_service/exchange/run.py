@@ -86,11 +86,12 @@ def restore(ours: Ours, visits: list[Visit], generation: Generation) -> list[str
 
 def publish(ours: Ours, anew: bool) -> list[str]:
     """Publishes our notices; what is left."""
-    for file in ours.outbox.damaged():
+    for file in ours.outbox.damaged_files():
         log(f'{file} is damaged or not signed: made anew from our registry')
     for line in ours.outbox.publish(ours.registry, anew):
         log(line)
-    return [f'{file} is no notice of our registry: take it away' for file in ours.outbox.damaged()]
+    return [f'{file} is no notice of our registry: take it away'
+            for file in ours.outbox.damaged_files()]
 
 
 def exchange(ours: Ours, visits: list[Visit], generation: Generation) -> list[str]:

@@ -89,7 +89,7 @@ class Visit:
         """Delivers what was refused for a reason that goes away."""
         for position, of in self.inbox.in_order():
             if of['became'].removeprefix('refused: ').split()[0] in PASSING:
-                self.deliver(position, self.inbox.fetched(position) or '', of['released'])
+                self.deliver(position, self.inbox.text_at(position) or '', of['released'])
 
     def verify_last(self) -> None:
         """What was imported last is in our registry; else all is delivered anew."""
@@ -141,7 +141,7 @@ class Visit:
         """Notes the first position where it shows another text than we have fetched."""
         record = self.inbox.record
         for position in range(1, record.highest + 1):
-            if self.peer.fetch_notice(position).text != self.inbox.fetched(position):
+            if self.peer.fetch_notice(position).text != self.inbox.text_at(position):
                 record.changed = str(position)
                 break
         else:
@@ -224,7 +224,7 @@ class Visit:
         """The certificates of each lot of the peer's own devices that were imported up to now."""
         if self.energy is None:
             self.energy = Energy(self.code)
-            for text in self.inbox.imported():
+            for text in self.inbox.imported_texts():
                 with contextlib.suppress(Refused):      # a file that was damaged since
                     self.energy.add(parse_notice(text))
         return self.energy

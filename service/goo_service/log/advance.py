@@ -80,7 +80,7 @@ def verify(day: datetime.date, today: datetime.date, date: datetime.date | None)
                       f'stays expired. If {day} is right: {hint}')
 
 
-def moved(client: Client, day: datetime.date, confirmed: str) -> Answer:
+def send_date(client: Client, day: datetime.date, confirmed: str) -> Answer:
     """The registry's answer to the request that moves its date."""
     request = {'command': 'advance', 'day': str(day), 'key': f'advance-{day}'}
     body = json.dumps(request, separators=(',', ':')).encode()
@@ -102,7 +102,7 @@ def advance(words: argparse.Namespace) -> int:
         date = date_of(client)
         if not words.confirm:
             verify(day, today, date)
-        answer = moved(client, day, words.confirm)
+        answer = send_date(client, day, words.confirm)
     except NoAnswer as fault:
         raise Refused(f'the registry does not answer: {fault}') from fault
     print(f'{day} {answer.text.rstrip()}')

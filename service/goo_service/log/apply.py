@@ -32,7 +32,7 @@ from goo_service.log.entries import Outcome
 from goo_service.log.entries import Record
 from goo_service.log.messages import Frames
 from goo_service.log.messages import Text
-from goo_service.log.messages import framed
+from goo_service.log.messages import frame_of
 from goo_service.log.options import Options
 from goo_service.log.position import Place
 from goo_service.log.position import Position
@@ -91,7 +91,7 @@ class Applier:
 
     def send(self, *message: Any) -> None:
         try:
-            self.pair.sendall(framed(*message))
+            self.pair.sendall(frame_of(*message))
         except OSError:
             os._exit(1)
 
@@ -222,7 +222,7 @@ class Applier:
 
     def finish(self, line: bytes, entry: Entry, hashed: str, answer: Answer) -> None:
         """What is left once the registry has decided an entry."""
-        outcome = entries.decided(entry.route, answer.status, answer.body, self.place.chain)
+        outcome = entries.outcome_after(entry.route, answer.status, answer.body, self.place.chain)
         self.keep(line, entry, hashed, outcome)
         self.outcomes.append((entry.n, hashed, outcome.chain, entry.id, answer.status, answer.kind,
                               answer.body))
@@ -281,15 +281,15 @@ class Applier:
             if refused is not REHEARSED:
                 return refused or ASIDE
         kept = self.written_at_last(lambda: self.refusals.begin(underway.mark_of(entry)))
-        return underway.applied(entry, kept, self.keep_refusal,
-                                lambda body, goes_on: self.send_line(entry, body, goes_on))
+        return underway.apply_lines(entry, kept, self.keep_refusal,
+                                    lambda body, goes_on: self.send_line(entry, body, goes_on))
 
     def rehearse(self, entry: Entry) -> Answer:
         """What a bundle would come to, by the records as they are between two entries."""
         self.registry.close()
         self.settle()
         address = self.options.rehearsal
-        return underway.rehearsed(address, entry, self.wait_for) or REHEARSED
+        return underway.rehearse(address, entry, self.wait_for) or REHEARSED
 
     def send_line(self, entry: Entry, body: bytes, goes_on: bool) -> Answer | None:
         """The outcome of one line. The first process takes requests meanwhile."""
@@ -389,7 +389,7 @@ class Applier:
                     'as it was applied here')
         is_decided = entry.method == 'VERSION' or known.status == entries.SET_ASIDE
         answer = Answer(known.status, '', known.body) if is_decided else self.decide(entry)
-        outcome = entries.decided(entry.route, answer.status, answer.body, self.place.chain)
+        outcome = entries.outcome_after(entry.route, answer.status, answer.body, self.place.chain)
         if outcome.chain != record.outcome.chain:
             return (f'entry {entry.n} came to something else than before; '
                     'restore database and place together')

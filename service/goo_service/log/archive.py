@@ -31,7 +31,7 @@ class Archive:
         self.last: Record | None = None
         for path in reversed(files):
             read = functools.partial(entries.read_record, key=key)
-            self.last = ends.mended(path, read, entries.follows)
+            self.last = ends.mend(path, read, entries.follows)
             if self.last:
                 break
 
@@ -44,7 +44,7 @@ class Archive:
         if self.file is None or month != self.month:
             self.turn(month)                        # on a full disk it raises, and the file stays
         assert self.file is not None
-        write_all(self.file, entries.archived(line, outcome))
+        write_all(self.file, entries.archive_line(line, outcome))
         self.last = Record(entry, outcome, hashed or entries.hash_of(line))
 
     def turn(self, month: str) -> None:

@@ -10,7 +10,7 @@ from collections.abc import Iterator
 from dataclasses import dataclass
 from typing import Any
 
-from goo_service.common.rules import REFUSALS
+from goo_service.rules.refusals import REFUSALS
 
 ROUTE, WHOLE = '/v1/bundles', '/v1/bundles?whole=yes'
 """Each line by itself, or all of them or none."""
@@ -107,7 +107,7 @@ def status_of(stated: dict[str, Any]) -> int:
     return STATUSES.get(str(stated.get('outcome')), 409)
 
 
-def answered(body: bytes, answer: bytes) -> Iterator[tuple[Line, dict[str, Any]]]:
+def read_outcomes(body: bytes, answer: bytes) -> Iterator[tuple[Line, dict[str, Any]]]:
     """Each line of an applied bundle with what it came to."""
     lines, answers = read(body), lines_of(answer)
     if len(lines) != len(answers):

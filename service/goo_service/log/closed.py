@@ -5,6 +5,8 @@ reader. Without the file no registry is closed.
 """
 from pathlib import Path
 
+from goo_service.common.files import write_whole
+
 PATH = '/etc/goo/closed-registries'
 MOST_BYTES = 4096
 
@@ -16,5 +18,25 @@ def closed_in(path: Path) -> frozenset[str]:
             lines = file.read(MOST_BYTES).decode(errors='replace').splitlines()
     except FileNotFoundError:
         return frozenset()
-    words = (line.split() for line in lines)
-    return frozenset(line[0].lstrip('0') for line in words if line and line[0].isdecimal())
+    return frozenset(filter(None, map(code_of, lines)))
+
+
+def code_of(line: str) -> str:
+    """The code at the beginning of a line; '' where there is none."""
+    word = line.split()[0] if line.split() else ''
+    return word.lstrip('0') if word.isdecimal() else ''
+
+
+def close(path: Path, code: int, about: str) -> None:
+    """Closes a registry, once."""
+    if str(code) not in closed_in(path):
+        before = path.read_text(encoding='utf-8') if path.exists() else ''
+        write_whole(path, f'{before}{code:02} {about}\n', mode=0o644)
+
+
+def reopen(path: Path, code: int) -> None:
+    """Takes a registry's lines away."""
+    if str(code) in closed_in(path):
+        lines = path.read_text(encoding='utf-8').splitlines(keepends=True)
+        kept = ''.join(line for line in lines if code_of(line) != str(code))
+        write_whole(path, kept, mode=0o644)

@@ -39,7 +39,6 @@ from collections.abc import Callable
 from dataclasses import dataclass
 from dataclasses import field
 from pathlib import Path
-from types import ModuleType
 
 from goo_service.common import owner
 from goo_service.common.client import Answer
@@ -122,7 +121,7 @@ def version_line(words: Words, version: str, n: int, hashed: str) -> bytes:
     """The line of an entry behind entry n that moves the version."""
     entry = Entry(n + 1, hashed, entries.now(), words.name, '', '', 'full', 'ISSUER', 'VERSION', '',
                   version, secrets.token_hex(8), version.encode())
-    return entries.written(entry, words.secret)
+    return entries.entry_line(entry, words.secret)
 
 
 def version_of(goo: str) -> str:
@@ -137,15 +136,9 @@ def program(words: Words) -> None:
     print(version_of(words.goo))
 
 
-def etcd_commands() -> ModuleType:
-    """The commands over etcd, which one host does without."""
-    from goo_service.log import etcd_commands as commands
-    return commands
-
-
 # ------------------------------------------------------------------ the log
 
-def found(words: Words) -> None:
+def begin_log(words: Words) -> None:
     """Begins the log after the place of this host, or at 0 with a new place."""
     version = words.program()
     become_owner(words)
@@ -154,7 +147,8 @@ def found(words: Words) -> None:
     place = held_place(words)
     line = version_line(words, version, place.n, place.hash)
     if words.etcd:
-        etcd_commands().found(words, place, line)
+        from goo_service.log import etcd_commands       # which one host does without
+        etcd_commands.begin_log(words, place, line)
     else:
         file_store.begin(words.state / 'log', line, place.n + 1)
     print(f'the log begins after entry {place.n}, with version {version}')
@@ -167,7 +161,8 @@ def move_version(words: Words) -> None:
         return version_line(words, words.text, end.n, end.hash)
 
     if words.etcd:
-        n = etcd_commands().move_version(words, line_after).n
+        from goo_service.log import etcd_commands       # which one host does without
+        n = etcd_commands.move_version(words, line_after).n
     else:
         log = file_store.FileStore(words.state / 'log', words.secret)
         n = log.last.n + 1
@@ -183,7 +178,8 @@ def set_aside(words: Words) -> None:
         raise Broken(f'entry {n} is not the one that the replica is at, which is {at}')
     become_owner(words)
     if words.etcd:
-        return print(etcd_commands().vote_aside(words, n))
+        from goo_service.log import etcd_commands       # which one host does without
+        return print(etcd_commands.vote_aside(words, n))
     (words.state / 'log' / f'{n}.aside').touch()
     print(f'entry {n} is set aside once the registry fails at it again')
 
@@ -265,13 +261,14 @@ def copy(words: Words) -> int:
     n = read_place(made).n
     print(f'{made}: the live file at entry {n}; the log makes the same rows of {before.name}')
     if words.etcd:
-        etcd_commands().copied(words, words.name, n)
+        from goo_service.log import etcd_commands       # which one host does without
+        etcd_commands.record_copy(words, words.name, n)
     for old in contents.copies_in(words.copies)[:-words.keep]:
         shutil.rmtree(old)
-    return recounted(words, made, before) if words.recount else 0
+    return recount_copy(words, made, before) if words.recount else 0
 
 
-def recounted(words: Words, made: Path, before: Path) -> int:
+def recount_copy(words: Words, made: Path, before: Path) -> int:
     """The copy recounted from the requests that it keeps, apart from the program."""
     earlier = before / 'registry.db'
     command = [*shlex.split(words.recount), str(made / 'registry.db'),
@@ -357,23 +354,26 @@ def health(words: Words) -> int:
 
 # ------------------------------------------------------------------ etcd
 
-def copied(words: Words) -> None:
+def record_copy(words: Words) -> None:
+    from goo_service.log import etcd_commands       # which one host does without
     become_owner(words)
-    print(etcd_commands().copied(words, words.text, held_place(words).n))
+    print(etcd_commands.record_copy(words, words.text, held_place(words).n))
 
 
 def forget(words: Words) -> None:
-    print(etcd_commands().forget(words, words.text))
+    from goo_service.log import etcd_commands       # which one host does without
+    print(etcd_commands.forget(words, words.text))
 
 
 def prune(words: Words) -> None:
-    print(etcd_commands().prune(words))
+    from goo_service.log import etcd_commands       # which one host does without
+    print(etcd_commands.prune(words))
 
 
 COMMANDS: dict[str, Callable[[Words], int | None]] = {
-    'found': found, 'version': move_version, 'aside': set_aside, 'place': put_place,
+    'found': begin_log, 'version': move_version, 'aside': set_aside, 'place': put_place,
     'first-copy': first_copy, 'copy': copy, 'verify': verify, 'compress': compress, 'ship': ship,
-    'health': health, 'program': program, 'undo': undo, 'again': send_again, 'copied': copied,
+    'health': health, 'program': program, 'undo': undo, 'again': send_again, 'copied': record_copy,
     'forget': forget, 'prune': prune}
 WITH_TEXT = ('version', 'aside', 'place', 'ship', 'copied', 'forget', 'undo', 'again')
 WITH_NUMBER = ('aside', 'undo', 'again')

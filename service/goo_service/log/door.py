@@ -1,10 +1,12 @@
 """A replica's own door: receives requests over HTTP/1.1, one on each connection, and answers them.
 
 The rules for what is answered by a status alone are the registry's (docs/HTTP.md). Of a request's
-head nothing goes on but the method, the path and four fields that the front door sets: GOO-Caller,
-GOO-User, GOO-Address and GOO-Role. Without a role it is `reads`, the least. A fifth one,
-GOO-Confirm, names a day that is confirmed on this host: it counts from root alone, and from this
-process' own user, by the Unix socket. The front door sends none.
+head nothing goes on but the method, the path and what the front door sets: GOO-Caller, GOO-User,
+GOO-Address, GOO-Role, GOO-Way (how the user signed in), GOO-Confirmed (a second user who confirmed
+the request) and GOO-Accounts (where the user may read only these accounts of his holder). Without a
+role it is `reads`, the least. One more, GOO-Confirm, names a day that is confirmed on this host: it
+counts from root alone, and from this process' own user, by the Unix socket. The front door sends
+none.
 """
 import asyncio
 import functools
@@ -39,7 +41,8 @@ PHRASES = {
 WHOLE = re.compile(r'([A-Z]+) ([!-~]+) HTTP/1\.([01])'
                    r"((?:\r\n[!#$%&'*+.^_`|~0-9A-Za-z-]+:[\t -~\x80-\xff]*)*)")
 CALLER = re.compile('[!-~]{0,40}')
-OURS = ('goo-caller', 'goo-user', 'goo-address', 'goo-role', 'goo-confirm')
+OURS = ('goo-caller', 'goo-user', 'goo-address', 'goo-role', 'goo-way', 'goo-confirmed',
+        'goo-accounts', 'goo-confirm')
 Fields = dict[str, object]
 """Further fields of an answer."""
 
@@ -65,8 +68,12 @@ class Head(NamedTuple):
     user: str
     address: str
     role: str
+    way: str
     confirmed: str
-    """A day."""
+    """By this user."""
+    accounts: str
+    day: str
+    """It is confirmed on this host."""
 
 
 @dataclass(eq=False, slots=True)
@@ -79,7 +86,10 @@ class Call:
     user: str
     address: str
     role: str
-    confirmed: str
+    way: str = ''
+    confirmed: str = ''
+    accounts: str = ''
+    day: str = ''
     body: bytes = b''
     gone: bool = False
     """The client has closed its end."""
@@ -98,7 +108,7 @@ def plain(status: int, why: str = '') -> Answer:
     return Answer(status, TEXT, (why or PHRASES[status]).encode() + b'\n')
 
 
-def refused(refusal: bounds.Refusal) -> tuple[Answer, Fields]:
+def refusal_answer(refusal: bounds.Refusal) -> tuple[Answer, Fields]:
     """The answer and the fields of what is out of bounds."""
     return Answer(refusal.status, 'application/json', refusal.body), {**refusal.fields}
 
@@ -122,17 +132,18 @@ def head_of(text: bytes) -> tuple[Head, int]:
     if any(len(named.get(name, ())) > 1 for name in OURS):
         # two of one: nobody knows which the front door set, so there is no caller
         named.pop('goo-caller', None)
-    caller, user, address, role, confirmed = (named.get(name, [''])[0] for name in OURS)
+    caller, user, address, role, way, confirmed, accounts, day = (
+        named.get(name, [''])[0] for name in OURS)
     caller = caller if CALLER.fullmatch(caller) else ''
     return Head(head[1], head[2], caller, readable(user), readable(address), role or 'reads',
-                confirmed), length
+                readable(way), readable(confirmed), accounts, day), length
 
 
 def length_of(values: list[str]) -> int:
     if len(values) > 1 or not re.fullmatch('[0-9]{1,19}', values[0]):
         raise by_status(400)
     if refusal := bounds.of_length(int(values[0])):
-        raise Refused(*refused(refusal))
+        raise Refused(*refusal_answer(refusal))
     return int(values[0])
 
 
@@ -180,7 +191,7 @@ class Connection(asyncio.Protocol):
 
     def look(self) -> None:
         """Serves the request, once all of it came."""
-        call = self.call or self.begun()
+        call = self.call or self.read_head()
         if call is None or len(self.received) < self.end:
             return
         call.body = bytes(self.received[self.begin:self.end])
@@ -188,7 +199,7 @@ class Connection(asyncio.Protocol):
         self.whole, self.until = True, math.inf
         self.door.serve(call, self.answer)
 
-    def begun(self) -> Call | None:
+    def read_head(self) -> Call | None:
         """The request without its body, once its head came."""
         end = self.received.find(b'\r\n\r\n', 0, HEAD)
         if end < 0:
@@ -200,8 +211,8 @@ class Connection(asyncio.Protocol):
             raise by_status(503)
         self.length, self.door.coming = length, self.door.coming + length
         self.call, self.begin, self.end = Call(*head), end + 4, end + 4 + length
-        if self.call.confirmed and not may_confirm(self.transport):
-            self.call.confirmed = ''
+        if self.call.day and not may_confirm(self.transport):
+            self.call.day = ''
         return self.call
 
     def forget(self) -> None:

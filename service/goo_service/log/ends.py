@@ -60,17 +60,17 @@ def last_of(path: Path, read: Callable[[bytes], Line],
             now = read(line)
             follow(last, now)
         except Broken as fault:
-            raise damaged(path, entries.entry_at(before, line, following), end, fault) from fault
+            raise damage_of(path, entries.entry_at(before, line, following), end, fault) from fault
         last, before, end = now, line, at
     return last, end
 
 
-def damaged(path: Path, entry: str, at: int, why: object) -> Broken:
+def damage_of(path: Path, entry: str, at: int, why: object) -> Broken:
     return Broken(f'{path}: {entry}, at byte {at}, is damaged, and nothing was changed: {why}')
 
 
-def mended(path: Path, read: Callable[[bytes], Line],
-           follow: Callable[[Line | None, Line], None] = any_order) -> Line | None:
+def mend(path: Path, read: Callable[[bytes], Line],
+         follow: Callable[[Line | None, Line], None] = any_order) -> Line | None:
     """The last whole line of a file, by `read`. The beginning of a line after it is cut off.
 
     A crash left such a beginning, and nobody was told of it. The cut takes no room on the disk.
@@ -83,7 +83,7 @@ def mended(path: Path, read: Callable[[bytes], Line],
         file.seek(end)
         rest = file.read()
         if entries.is_more_than_a_line(rest):
-            raise damaged(path, entries.entry_at(None, rest, iter(())), end, 'it has no line end')
+            raise damage_of(path, entries.entry_at(None, rest, iter(())), end, 'it has no line end')
         file.truncate(end)
         os.fsync(file.fileno())
     print(f'{path}: the beginning of a line, {len(rest)} bytes from byte {end} on, was cut off',

@@ -71,6 +71,12 @@ class Entry(NamedTuple):
     """By chance. The replica finds the request that waits for this entry."""
     body: bytes
     """Exactly as it came."""
+    way: str = ''
+    """How the user signed in: session, token NAME, certificate, password. In the line it stands
+    behind the user; it is left out where it is empty."""
+    confirmed: str = ''
+    """The second user, who confirmed what waited for him. In the line it stands behind `way`; it
+    is left out where it is empty."""
 
 
 class Outcome(NamedTuple):
@@ -139,11 +145,15 @@ def body_of(name: str, text: str) -> bytes:
 
 AROUND = len('{"entry":},"mac":""}') + 64
 """Bytes of a line beside head and body of its entry."""
-FIELDS = list(Entry._fields)
-FORM = '{"n":%d,' + ','.join([f'"{name}":%s' for name in FIELDS[1:-1]]) + ','
+MAY_LACK = ('way', 'confirmed')
+"""Members that a line has where they say something. Lines of before there were any are as ever."""
+FIRST, BODY = Entry._fields.index('user') + 1, Entry._fields.index('body')
+LEADING, REST = list(Entry._fields[:FIRST]), list(Entry._fields[FIRST:BODY])
+FORM = ('{"n":%d,' + ','.join([f'"{name}":%s' for name in LEADING[1:]]) + '%s,'
+        + ','.join([f'"{name}":%s' for name in REST]) + ',')
 
 
-def written(entry: Entry, key: bytes, member: bytes = b'') -> bytes:
+def entry_line(entry: Entry, key: bytes, member: bytes = b'') -> bytes:
     """The line of an entry, without its line end.
 
     `member` is what `body_member` makes of the body, as bytes, where that is known.
@@ -154,7 +164,15 @@ def written(entry: Entry, key: bytes, member: bytes = b'') -> bytes:
 
 def head_of(entry: Entry) -> bytes:
     """The members before the body."""
-    return (FORM % (entry.n, *map(quoted, entry[1:-1]))).encode()
+    leading, rest = map(quoted, entry[1:FIRST]), map(quoted, entry[FIRST:BODY])
+    return (FORM % (entry.n, *leading, optional_members(entry), *rest)).encode()
+
+
+def optional_members(entry: Entry) -> str:
+    """Those members that a line may lack, as far as they say something."""
+    way, confirmed = entry.way, entry.confirmed
+    return ((f',"way":{quoted(way)}' if way else '')
+            + (f',"confirmed":{quoted(confirmed)}' if confirmed else ''))
 
 
 def length(entry: Entry, member: bytes) -> int:
@@ -163,13 +181,13 @@ def length(entry: Entry, member: bytes) -> int:
 
 
 @functools.lru_cache(4)
-def keyed(key: bytes) -> hmac.HMAC:
+def new_mac(key: bytes) -> hmac.HMAC:
     """A keyed hash over nothing yet: to begin one costs as much as a short text."""
     return hmac.new(key, digestmod='sha256')
 
 
 def mac(text: bytes, key: bytes) -> str:
-    made = keyed(key).copy()
+    made = new_mac(key).copy()
     made.update(text)
     return made.hexdigest()
 
@@ -220,10 +238,13 @@ def entry_in(text: bytes, stated: str, key: bytes | None) -> Entry:
             raise Broken(f"entry {members['n']}: its keyed hash is wrong: "
                          'no replica with this key wrote it')
         *names, last = members
-        if [*names, last.removesuffix('64')] != FIELDS or type(members['n']) is not int:
+        more = {name: members[name] for name in MAY_LACK if name in members}
+        is_whole = [*names, last.removesuffix('64')] == [*LEADING, *more, *REST, 'body']
+        if not is_whole or type(members['n']) is not int or '' in more.values():
             raise Broken(f"entry {members['n']}: its members are {[*names, last]}")
-        *values, body = members.values()
-        return Entry(*[*values, body_of(last, body)])
+        values = [members[name] for name in (*LEADING, *REST)]
+        may_lack = [more.get(name, '') for name in MAY_LACK]
+        return Entry(*[*values, body_of(last, members[last]), *may_lack])
     except (KeyError, TypeError, ValueError, AttributeError, RecursionError) as fault:
         raise Broken(f'a line that is no entry: {text[:80]!r}') from fault
 
@@ -246,13 +267,13 @@ def comparable(route: str, status: int, body: bytes) -> bytes:
     return b'%d ' % status + body
 
 
-def decided(route: str, status: int, body: bytes, chain: str) -> Outcome:
+def outcome_after(route: str, status: int, body: bytes, chain: str) -> Outcome:
     """The outcome of an entry, after the chain of the outcomes before it."""
     after = hashlib.sha256(chain.encode() + comparable(route, status, body)).hexdigest()
     return Outcome(status, body, after)
 
 
-def archived(line: bytes, outcome: Outcome) -> bytes:
+def archive_line(line: bytes, outcome: Outcome) -> bytes:
     """The archive's line, with its line end."""
     text = (f',"outcome":{{"status":{outcome.status},{body_member(outcome.body)},'
             f'"chain":"{outcome.chain}"}}}}\n')
@@ -369,7 +390,7 @@ def read_archive(folder: str | Path, after: int = 0, key: bytes | None = None,
                 record = read_record(line, key)
                 follows(last, record)
             except Broken as fault:
-                raise located(fault, path, last) from fault
+                raise with_place(fault, path, last) from fault
             last = record
             if n > after:
                 yield record
@@ -378,7 +399,7 @@ def read_archive(folder: str | Path, after: int = 0, key: bytes | None = None,
         time.sleep(0.2)
 
 
-def located(fault: Broken, path: Path, last: Record | None) -> Broken:
+def with_place(fault: Broken, path: Path, last: Record | None) -> Broken:
     """A fault of a line with its file, and with its entry where it names none itself."""
     text = str(fault)
     if text.startswith('entry') or last is None:
@@ -430,5 +451,5 @@ def follows(before: Record | None, record: Record) -> None:
         raise Broken(f'entry {entry.n}: it names another entry before it '
                      f'than entry {before.entry.n}')
     chain = before.outcome.chain if before else NO_CHAIN
-    if decided(entry.route, outcome.status, outcome.body, chain).chain != outcome.chain:
+    if outcome_after(entry.route, outcome.status, outcome.body, chain).chain != outcome.chain:
         raise Broken(f'entry {entry.n}: its outcome is not the one that was chained')

@@ -11,7 +11,7 @@ from goo_service.log.store import Point
 from goo_service.log.store import after
 
 
-def found(options: EtcdOptions, place: Placed, line: bytes) -> Point:
+def begin_log(options: EtcdOptions, place: Placed, line: bytes) -> Point:
     """Begins the log in an etcd that has none, after this replica's place; its end.
 
     A member that was called before may have done so without an answer: then the log's first entry
@@ -54,7 +54,7 @@ def vote_aside(options: EtcdOptions, n: int) -> str:
     return f'{options.name} votes to set entry {n} aside'
 
 
-def copied(options: EtcdOptions, name: str, n: int) -> str:
+def record_copy(options: EtcdOptions, name: str, n: int) -> str:
     """A copy has all entries up to n: those after it are kept."""
     key = f'{Keys(options.code).root}copy/{name}'
     one(options, 'kv/txn', {'success': [etcd.put(key, f'{n:020}')]})

@@ -86,7 +86,7 @@ class EtcdStore:
             await self.wanted.wait()
             self.wanted.clear()
             waiting, self.waiting = self.waiting, []
-            applied = self.applied()        # before the read: it goes on while that is under way
+            applied = self.applied_point()  # before the read: it goes on while that is under way
             try:
                 answer = await self.etcd['mark'].call('kv/range', etcd.range_of(self.keys.end))
                 self.last, self.quorum = etcd.end_in(answer), True
@@ -100,7 +100,7 @@ class EtcdStore:
                     if not future.done():
                         future.set_exception(NoAnswer(str(fault)))
 
-    def applied(self) -> Point:
+    def applied_point(self) -> Point:
         return Point(self.place.n, self.place.hash, '')
 
     def compare(self, applied: Point, end: Point) -> None:
@@ -164,7 +164,7 @@ class EtcdStore:
         first, began, is_sure = self.keys.log(end.n + 1), time.monotonic(), True
         words = self.append_words(lines, end, last)
         while wanted():
-            applied = self.applied()
+            applied = self.applied_point()
             try:
                 answer = await self.etcd['append'].call('kv/txn', words)
             except Denied as denied:
@@ -235,11 +235,11 @@ class EtcdStore:
                 'success': [etcd.put(f'{root}replica/{name}', f'{place.n:020}'), *own]})
             self.reported = reported
         for n, own_digest in list(digests.items()):
-            if why := await self.judged(n, own_digest):
+            if why := await self.judge(n, own_digest):
                 return why
         return ''
 
-    async def judged(self, n: int, own: str) -> str:
+    async def judge(self, n: int, own: str) -> str:
         """Where replicas differ after an entry, only a majority that agrees takes requests."""
         words = etcd.range_of(*self.keys.under(f'digest/{n:020}'))
         answer = await self.etcd['report'].call('kv/range', words)
@@ -269,20 +269,20 @@ class EtcdStore:
         """Votes for it where the registry answers and this entry fails for long."""
         n, aside = entry.n, self.keys.aside(entry.n)
         try:
-            if n not in self.voted and self.owner.cannot(self.options.aside):
+            if n not in self.voted and self.owner.is_failing(self.options.aside):
                 vote = etcd.put(self.keys.aside(n, self.options.name), 'cannot')
                 await self.etcd['aside'].call('kv/txn', {
                     'compare': [etcd.is_there(aside, False)], 'success': [vote]})
                 self.voted.add(n)
             while n in self.voted:
-                if await self.settled(entry):
+                if await self.is_decided(entry):
                     return True
                 await asyncio.sleep(0.5)
             return bool(etcd.pairs(await self.etcd['aside'].call('kv/range', etcd.range_of(aside))))
         except NoAnswer:
             return False
 
-    async def settled(self, entry: Entry) -> bool:
+    async def is_decided(self, entry: Entry) -> bool:
         """Whether it is decided that an entry is set aside.
 
         A majority decides it, the host that took the request among it, where no replica has applied

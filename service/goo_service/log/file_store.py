@@ -55,7 +55,7 @@ def follows(before: Line | None, now: Line) -> None:
         raise entries.Broken(f'entry {now.end.n} does not follow entry {before.end.n}')
 
 
-def locked(folder: Path) -> int:
+def lock_folder(folder: Path) -> int:
     """The folder of a log, opened and locked until this process ends."""
     lock = os.open(folder, os.O_RDONLY)
     try:
@@ -76,7 +76,7 @@ class FileStore:
     def __init__(self, folder: str | Path, key: bytes | None, applied: int = 0) -> None:
         self.folder, self.key, self.full = Path(folder), key, False
         # before anything is cut: a line that another program just writes would look cut off
-        self.lock = locked(self.folder)
+        self.lock = lock_folder(self.folder)
         try:
             self.last = self.mended_end()
             if self.last.n < applied:
@@ -89,7 +89,7 @@ class FileStore:
 
     def mended_end(self) -> Point:
         for path in reversed(self.files()):
-            if found := ends.mended(path, line_read(self.key), follows):
+            if found := ends.mend(path, line_read(self.key), follows):
                 return found.end
         raise entries.Broken(f'{self.folder}: there is no log; `goo-replica-log found` begins one')
 

@@ -34,7 +34,7 @@ Text = tuple[bytes] | tuple[bytes, tuple[Any, ...], str]
 """An entry as it is told: its line, and its members and its hash where they are known."""
 
 
-def framed(*message: Any) -> bytes:
+def frame_of(*message: Any) -> bytes:
     text = marshal.dumps(message)
     return len(text).to_bytes(4, 'little') + text
 

@@ -9,7 +9,7 @@ from typing import cast
 
 from goo_service.log.journal import write
 from goo_service.log.messages import Frames
-from goo_service.log.messages import framed
+from goo_service.log.messages import frame_of
 
 
 class Pair(asyncio.Protocol):
@@ -35,7 +35,7 @@ class Pair(asyncio.Protocol):
 
         A transport may keep it until the end of the loop's turn.
         """
-        text = framed(*message)
+        text = frame_of(*message)
         if not self.transport.get_write_buffer_size():
             try:
                 text = text[self.pair.send(text):]

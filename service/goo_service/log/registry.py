@@ -61,7 +61,7 @@ def request_of(method: str, target: str, caller: str, body: bytes = b'') -> byte
     return head.encode('latin-1') + body
 
 
-def connected(family: socket.AddressFamily, address: Address) -> socket.socket:
+def connect(family: socket.AddressFamily, address: Address) -> socket.socket:
     """A connection, which is there at once or not at all on this host.
 
     A port of this host says a moment later that nobody listens, so what is sent first tells.
@@ -138,7 +138,7 @@ class Registry:
 
     async def fetch(self, method: str, target: str, caller: str, patience: float = 300) -> Answer:
         """The registry's answer, which came whole. Anything else raises one of BROKEN."""
-        with connected(self.family, self.address) as s:
+        with connect(self.family, self.address) as s:
             exchange = Exchange(s, method)
             rest = exchange.send(request_of(method, target, caller))
             self.count += 1
@@ -175,7 +175,7 @@ class EntryCalls:
 
         `meanwhile` is called while the registry is at the request.
         """
-        s, self.next = self.next or connected(self.family, self.address), None
+        s, self.next = self.next or connect(self.family, self.address), None
         try:
             exchange = Exchange(s, method)
             if rest := exchange.send(request_of(method, target, caller, body)):
@@ -195,7 +195,7 @@ class EntryCalls:
 
     def connect_ahead(self) -> None:
         try:
-            self.next = self.next or connected(self.family, self.address)
+            self.next = self.next or connect(self.family, self.address)
         except OSError:
             pass                                # the next request tells
 

@@ -58,7 +58,7 @@ class Sent:
         entry, outcome = self.record.entry, self.record.outcome
         number = f'now entry {self.entry}' if self.entry else 'not taken into the log'
         return (f'entry {entry.n}, {number}: {entry.user or "an agent"} as {entry.caller}, '
-                f'{named(entry)}: was {outcome.status} {shown(outcome.body)}, '
+                f'{in_few_words(entry)}: was {outcome.status} {shown(outcome.body)}, '
                 f'is {self.status} {shown(self.body)}')
 
 
@@ -66,7 +66,7 @@ def shown(body: bytes) -> str:
     return ' '.join(body.decode(errors='replace').split())[:300]
 
 
-def named(entry: entries.Entry) -> str:
+def in_few_words(entry: entries.Entry) -> str:
     """A request in few words: its command and key, or that it is a table or a bundle."""
     if entry.route in bundles.ROUTES:
         return f'a bundle of {len(bundles.lines_of(entry.body))} requests'
@@ -207,7 +207,7 @@ def send_one(door: str, record: entries.Record, role: str) -> Sent:
     entry = record.entry
     client = Client(door, PATIENCE, fields={
         'GOO-Caller': entry.caller, 'GOO-User': entry.user, 'GOO-Address': entry.address,
-        'GOO-Role': role})
+        'GOO-Role': role, 'GOO-Way': entry.way, 'GOO-Confirmed': entry.confirmed})
     for _ in range(TRIES):
         with contextlib.suppress(NoAnswer):
             answer = client.post(entry.route, entry.body)

@@ -14,6 +14,7 @@ from goo_service.log import bundles
 from goo_service.log import day
 from goo_service.log import entries
 from goo_service.log import health
+from goo_service.log import narrowed
 from goo_service.log import roles
 from goo_service.log import underway
 from goo_service.log.closed import closed_in
@@ -21,7 +22,7 @@ from goo_service.log.door import Call
 from goo_service.log.door import Fields
 from goo_service.log.door import Reply
 from goo_service.log.door import plain
-from goo_service.log.door import refused
+from goo_service.log.door import refusal_answer
 from goo_service.log.hold import HOLD
 from goo_service.log.journal import write
 from goo_service.log.registry import APPLY
@@ -72,7 +73,7 @@ class Service:
         if call.method == 'GET' and call.target not in WRITES:
             if not self.may(call):
                 return self.refuse_role(call, reply)
-            return reply(*await self.read(call))
+            return reply(*await self.read_own(call))
         try:                                    # 404 or 405, and nothing is changed
             answer = await self.replica.registry.fetch('HEAD', call.target, call.caller)
             reply(dataclasses.replace(plain(answer.status), allow=answer.allow), {})
@@ -99,13 +100,13 @@ class Service:
         self.replica.counts['role_refused'] += 1
         write(f'refused by role: {call.user} ({call.role}) {call.method} {call.target} '
               f'from {call.address}')
-        reply(*refused(bounds.Refusal(
+        reply(*refusal_answer(bounds.Refusal(
             403, f'the role {call.role} does not allow {call.method} {call.target}')))
 
     def refuse(self, refusal: bounds.Refusal, reply: Reply) -> None:
         """What is out of bounds never comes into the log."""
         self.replica.counts['beyond'] += 1
-        reply(*refused(refusal))
+        reply(*refusal_answer(refusal))
 
     def beyond(self, call: Call) -> bounds.Refusal | None:
         """The bound that a write is beyond, if so.
@@ -115,7 +116,7 @@ class Service:
         if call.target == bounds.TABLES:
             return bounds.of_table(call.body)
         closed = closed_in(Path(self.replica.options.closed))
-        host = bounds.Host(datetime.date.today(), call.confirmed, closed)
+        host = bounds.Host(datetime.date.today(), call.day, closed)
         if call.target in bundles.ROUTES:
             is_whole = call.target == bundles.WHOLE
             return bounds.of_bundle(call.caller, call.body, is_whole, host)
@@ -137,31 +138,29 @@ class Service:
             return reply(plain(503), {})
         if replica.journal.is_aside(call.caller, call.target, call.body):
             return reply(plain(entries.SET_ASIDE, 'Set aside'), {})
+        if replica.options.etcd:                # a host of before could read no such entry
+            call.way = call.confirmed = ''
         if call.target == bundles.WHOLE:
-            return self.keep(self.take_whole(call, reply))
-        self.take(call, reply)
+            return self.keep(self.append_whole(call, reply))
+        self.append(call, reply)
 
-    async def take_whole(self, call: Call, reply: Reply) -> None:
+    async def append_whole(self, call: Call, reply: Reply) -> None:
         """A bundle that has to be rehearsed is no entry while there is no room for a rehearsal.
 
         In the log it would hold up all that comes after it.
         """
         if why := await underway.no_room(self.replica.options.rehearsal, call.caller):
             return self.refuse(bounds.Refusal(503, why, ROOM), reply)
-        self.take(call, reply)
+        self.append(call, reply)
 
-    def take(self, call: Call, reply: Reply) -> None:
+    def append(self, call: Call, reply: Reply) -> None:
         """A write that may become an entry, where its user and its holder have bytes left."""
         replica, request = self.replica, Waiting(call, reply)
         request.size = self.size_of(request)
         sent = replica.requests.sent.of(call.caller, call.user)
         if refusal := bounds.of_day(call.caller, *sent, request.size, day.now()):
             return self.refuse(refusal, reply)
-        replica.requests.add(request)
-        if replica.is_alone():
-            replica.append_alone()
-        elif replica.has_work():
-            replica.work.set()
+        replica.appender.add(request)
 
     def size_of(self, request: Waiting) -> int:
         """The bytes of a request's line, at the most."""
@@ -170,6 +169,16 @@ class Service:
         return entries.length(entry, request.member)
 
     # -------------------------------------------------------------- reads
+
+    async def read_own(self, call: Call) -> tuple[Answer, Fields]:
+        """A read, of the accounts that the user may read."""
+        accounts = narrowed.accounts_in(call.accounts)
+        if accounts is None:
+            return await self.read(call)
+        if not narrowed.is_asked(call.target, accounts):
+            return plain(403), {}
+        answer, fields = await self.read(call)
+        return narrowed.shown(call.target, answer, accounts), fields
 
     async def read(self, call: Call) -> tuple[Answer, Fields]:
         """Of records that have all that was in the log when the read came.
@@ -192,7 +201,7 @@ class Service:
         except BROKEN:
             return plain(503), {}
         finally:
-            replica.requests.waited(began)
+            replica.requests.note_wait(began)
 
     async def is_current(self) -> bool:
         """Whether the records have, after a while, all that is in the log now."""
@@ -203,7 +212,7 @@ class Service:
             async with asyncio.timeout(READ):
                 end = await replica.store.end()
                 if replica.place.n < end.n:
-                    await replica.until(end.n)
+                    await replica.progress.wait_for(end.n)
             return True
         except (NoAnswer, TimeoutError):
             return False
@@ -219,7 +228,7 @@ class Service:
         async with self.holding:
             if call.gone:
                 return
-            place, end = await self.replica.hold(), time.monotonic() + HOLD
+            place, end = await self.replica.progress.hold(), time.monotonic() + HOLD
             told = {'n': place.n, 'hash': place.hash, 'chain': place.chain,
                     'version': self.replica.version}
             reply(Answer(200, 'application/json', json.dumps(told).encode() + b'\n'), {}, True)
@@ -228,4 +237,4 @@ class Service:
             if call.close:
                 call.close()
             await asyncio.sleep(0.05)
-            self.replica.go()
+            self.replica.progress.go()

@@ -65,7 +65,7 @@ class Owner(Protocol):
     def warn(self, words: str) -> None:
         """Once in the journal."""
 
-    def cannot(self, patience: float) -> bool:
+    def is_failing(self, patience: float) -> bool:
         """Whether the registry has failed at the entry in hand for so many seconds."""
 
     def learn(self, n: int, line: bytes) -> None:

@@ -50,7 +50,7 @@ class Refusals:
         self.close()
         self.file = os.open(self.path, CREATED, 0o640)
         if is_same:         # what a crash left unfinished goes, and all else stays as it was synced
-            whole = [written(number, body) for number, body in found.items()]
+            whole = [refusal_line(number, body) for number, body in found.items()]
             os.ftruncate(self.file, len(head) + sum(map(len, whole)))
         else:               # the bundle before is in place, and its refusals are in the archive
             os.ftruncate(self.file, 0)
@@ -61,7 +61,7 @@ class Refusals:
     def keep(self, number: int, body: bytes) -> None:
         """A refusal is on the disk once this is done."""
         assert self.file is not None
-        write_all(self.file, written(number, body))
+        write_all(self.file, refusal_line(number, body))
         os.fdatasync(self.file)
 
     def close(self) -> None:
@@ -75,7 +75,7 @@ def mark_of(entry: Entry) -> str:
     return f'{entry.n} {entry.prev} {entry.id}'
 
 
-def written(number: int, body: bytes) -> bytes:
+def refusal_line(number: int, body: bytes) -> bytes:
     return b'%d %b\n' % (number, base64.b64encode(body))
 
 
@@ -91,8 +91,8 @@ def kept_in(text: bytes) -> dict[int, bytes]:
     return found
 
 
-def applied(entry: Entry, kept: dict[int, bytes], keep: Callable[[int, bytes], None],
-            send: Send) -> Answer:
+def apply_lines(entry: Entry, kept: dict[int, bytes], keep: Callable[[int, bytes], None],
+                send: Send) -> Answer:
     """The answer to a bundle, once each line has its own."""
     lines = bundles.read(entry.body)
     answers: list[bytes] = []
@@ -112,14 +112,14 @@ def applied(entry: Entry, kept: dict[int, bytes], keep: Callable[[int, bytes], N
 
 # ------------------------------------------------------------------ the rehearsal
 
-def rehearsed(address: str, entry: Entry, wait: Callable[[socket.socket], None]) -> Answer | None:
+def rehearse(address: str, entry: Entry, wait: Callable[[socket.socket], None]) -> Answer | None:
     """Why a bundle is refused whole; None where each of its lines would be accepted.
 
     ValueError, OSError or EOFError where the rehearsal did not come to its end.
     """
     lines = bundles.lines_of(entry.body)
     head = compact({'caller': entry.caller, 'lines': len(lines)})
-    said = json.loads(asked(address, head + b'\n' + b'\n'.join(lines) + b'\n', wait))
+    said = json.loads(fetch_rehearsal(address, head + b'\n' + b'\n'.join(lines) + b'\n', wait))
     if said == {'rehearsed': len(lines)}:
         return None
     if not isinstance(said, dict) or said.get('outcome') not in ('refused', 'unreadable'):
@@ -127,7 +127,7 @@ def rehearsed(address: str, entry: Entry, wait: Callable[[socket.socket], None])
     return Answer(bundles.status_of(said), 'application/json', compact(said) + b'\n')
 
 
-def asked(address: str, question: bytes, wait: Callable[[socket.socket], None]) -> bytes:
+def fetch_rehearsal(address: str, question: bytes, wait: Callable[[socket.socket], None]) -> bytes:
     """What a rehearsal says, up to its end."""
     family, where = address_of(address)
     with socket.socket(family, socket.SOCK_STREAM) as s:

@@ -53,7 +53,8 @@ class Waiting:
     def as_entry(self, end: Point, now: str, host: str) -> Entry:
         call = self.call
         return Entry(end.n + 1, end.hash, now, host, call.user, call.address, call.role,
-                     call.caller, 'POST', call.target, end.version, self.id, call.body)
+                     call.caller, 'POST', call.target, end.version, self.id, call.body, call.way,
+                     call.confirmed)
 
 
 @dataclass
@@ -116,8 +117,8 @@ class Requests:
         del self.pending[request.id]
         self.held -= request.size
         self.release(request)
-        self.waited(request.began)
+        self.note_wait(request.began)
         request.reply(answer, {'GOO-Entry': request.entry} if request.entry else {})
 
-    def waited(self, began: float) -> None:
+    def note_wait(self, began: float) -> None:
         self.longest = max(self.longest, time.monotonic() - began)

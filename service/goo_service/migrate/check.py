@@ -6,6 +6,7 @@ with a fault has none of its own by that.
 import sqlite3
 from collections import Counter
 from collections.abc import Callable
+from collections.abc import Container
 from collections.abc import Iterator
 from dataclasses import dataclass
 from dataclasses import field
@@ -22,6 +23,7 @@ from goo_service.migrate.faults import Fault
 from goo_service.migrate.forms import Unfit
 from goo_service.migrate.settings import COLUMNS
 from goo_service.migrate.settings import Settings
+from goo_service.migrate.settings import must
 from goo_service.migrate.tables import Row
 
 REPORT = 'report.txt'
@@ -41,6 +43,10 @@ class Known:
     carried: set[str] = field(default_factory=set)
     documents: set[str] = field(default_factory=set)
 
+    def __post_init__(self) -> None:
+        self.by_table: dict[str, Container[str]] = {
+            'holders': self.holders, 'accounts': self.accounts, 'devices': self.devices}
+
 
 class Judge:
     """Judges rows, and keeps those that can be read, with all faults, in the working file."""
@@ -48,13 +54,16 @@ class Judge:
     def __init__(self, folder: Path, settings: Settings, database: sqlite3.Connection) -> None:
         self.folder, self.settings, self.database = folder, settings, database
         self.known, self.rows = Known(), Counter[str]()
-        self.faults, self.open = Counter[str](), 0
+        self.faults, self.open, self.used = Counter[str](), 0, set[str]()
+        self.unread = set[str]()
+        """Tables that can't be read to their end: what other tables say of them is not judged."""
         self.day = forms.day_reader(settings.days)
         self.number = numbers.Reader(settings)
 
     def tell(self, fault: Fault) -> None:
         """Keeps a fault."""
         is_waived = fault.is_waived(self.settings.waivers)
+        self.used |= self.settings.waivers & fault.waivers
         self.faults[fault.kind] += 1
         self.open += not is_waived
         self.database.execute('INSERT INTO fault VALUES (?, ?, ?, ?, ?, ?, ?)', (
@@ -63,6 +72,8 @@ class Judge:
 
     def read(self) -> None:
         """Reads all tables, and judges them by row, and then with each other."""
+        must(self.settings.choice or not tables.path_of(self.folder, 'carried').exists(),
+             '[carry] lacks choice: what becomes of the energy in carried.csv')
         judged: dict[str, Callable[[Row], Iterator[Fault]]] = {
             'holders': self.holder, 'accounts': self.account, 'devices': self.device,
             'stock': self.stock, 'carried': self.carried, 'documents': self.document}
@@ -81,7 +92,12 @@ class Judge:
                 for fault in [row] if isinstance(row, Fault) else list(judged(row)):
                     self.tell(fault)
         except tables.Refused as refused:
+            self.unread.add(table)
             self.tell(refused.fault)
+
+    def is_in(self, table: str, value: str) -> bool:
+        """Whether a row of a table has this holder, account or device."""
+        return table in self.unread or value in self.known.by_table[table]
 
     def keep(self, table: str, *values: object) -> None:
         self.database.execute(f'INSERT INTO {table} VALUES ({", ".join("?" * len(values))})',
@@ -130,7 +146,7 @@ class Judge:
         for column in ('account', 'holder'):
             if not row.fields[column]:
                 yield row.fault('empty', column, 'it is empty')
-        if holder and holder not in self.known.holders:
+        if holder and not self.is_in('holders', holder):
             yield row.fault('account-without-holder', 'holder', f'no row has holder {holder!r}')
         if old in self.known.accounts:
             yield row.fault('account-twice', 'account', f'{old!r} is in a row before')
@@ -147,7 +163,7 @@ class Judge:
             given['capacity'], self.settings.capacity)), faults)
         begun = self.fit(row, 'day', 'commissioned', lambda: self.day(given['commissioned']),
                          faults)
-        if given['account'] not in self.known.accounts:
+        if not self.is_in('accounts', given['account']):
             faults.append(row.fault('device-without-account', 'account',
                                     f'no row has account {given["account"]!r}'))
         if given['device'] in self.known.devices:
@@ -169,10 +185,10 @@ class Judge:
         given, faults = row.fields, list[Fault]()
         days = {column: self.fit(row, 'day', column, lambda: self.day(given[column]), faults)
                 for column in ('first_day', 'last_day', 'issued_on')}
-        if given['device'] not in self.known.devices:
+        if not self.is_in('devices', given['device']):
             faults.append(row.fault('stock-without-device', 'device',
                                     f'no row has device {given["device"]!r}'))
-        if given['account'] not in self.known.accounts:
+        if not self.is_in('accounts', given['account']):
             faults.append(row.fault('stock-without-account', 'account',
                                     f'no row has account {given["account"]!r}'))
         faults += lots.row_faults(row, days, self.known.devices.get(given['device'], ''),
@@ -191,7 +207,7 @@ class Judge:
         device, faults = row.fields['device'], list[Fault]()
         energy = self.fit(row, 'carry', 'energy_wh', lambda: str(forms.carried_energy(
             row.fields['energy_wh'])), faults)
-        if device not in self.known.devices:
+        if not self.is_in('devices', device):
             faults.append(row.fault('carry', 'device', f'no row has device {device!r}'))
         if device in self.known.carried:
             faults.append(row.fault('carry-twice', 'device', 'the device is in a row before'))
@@ -202,7 +218,7 @@ class Judge:
 
     def document(self, row: Row) -> Iterator[Fault]:
         given, faults = row.fields, list[Fault]()
-        if given['holder'] not in self.known.holders:
+        if not self.is_in('holders', given['holder']):
             faults.append(row.fault('account-without-holder', 'holder',
                                     f'no row has holder {given["holder"]!r}'))
         if given['file'] in self.known.documents:
@@ -227,11 +243,16 @@ WORDS: dict[str, tuple[str, forms.Reader]] = {
 
 @dataclass(frozen=True)
 class Judgement:
-    """What a check found: rows by table, faults by kind, and how many stand that nobody waived."""
+    """What a check found: rows by table, faults by kind, and how many stand that nobody waived.
+
+    Rows are numbered anew with each delivery of the tables: a waiver without a fault is told.
+    """
 
     rows: Counter[str]
     faults: Counter[str]
     open: int
+    idle: list[str]
+    """Waivers that waive nothing."""
 
 
 def check(folder: Path, settings: Settings) -> Judgement:
@@ -240,11 +261,11 @@ def check(folder: Path, settings: Settings) -> Judgement:
         judge = Judge(folder, settings, database)
         judge.read()
         work.settle(database)
-        for table in COLUMNS:
-            path = tables.path_of(folder, table)
-            work.note(database, f'hash {table}', tables.hash_of(path) if path.exists() else '')
         work.note(database, 'open', str(judge.open))
-        found = Judgement(judge.rows, judge.faults, judge.open)
+        for name, found_hash in tables.hashes(folder).items():
+            work.note(database, f'hash {name}', found_hash)
+        found = Judgement(judge.rows, judge.faults, judge.open,
+                          sorted(settings.waivers - judge.used))
         with (folder / REPORT).open('w', encoding='utf-8') as report:
             report.writelines(f'{line}\n' for line in report_lines(database, found))
     return found
@@ -258,6 +279,7 @@ def report_lines(database: sqlite3.Connection, found: Judgement) -> Iterator[str
         yield f'{table}: {count:,} rows, {left:,} of them left out'
     waived, = database.execute('SELECT count(*) FROM fault WHERE waived').fetchone()
     yield f'faults: {found.faults.total():,}, {waived:,} of them waived'
+    yield from (f'no such fault, and so nothing to waive: {waiver}' for waiver in found.idle)
     for kind, count in sorted(found.faults.items()):
         yield ''
         yield f'{kind}: {count:,} ({KINDS[kind][0]}; waived: {KINDS[kind][1]})'

@@ -4,11 +4,11 @@ usage: goo-migrate check FOLDER
        goo-migrate plan FOLDER
        goo-migrate rehearse FOLDER [--program PATH]
        goo-migrate run FOLDER [--log SOCKET]
-       goo-migrate compare FOLDER DATABASE
-       goo-migrate protocol FOLDER DATABASE --key FILE
+       goo-migrate compare FOLDER COPY
+       goo-migrate protocol FOLDER COPY --key FILE
        goo-migrate verify FOLDER [--public KEY]
        goo-migrate attach FOLDER
-       goo-migrate close FOLDER
+       goo-migrate close FOLDER [--open]
        goo-migrate find FOLDER NUMBER [--new]
 
 FOLDER has the settings, migration.toml, and the old registry's tables in tables/ (MIGRATING.md).
@@ -16,10 +16,11 @@ FOLDER has the settings, migration.toml, and the old registry's tables in tables
 that nobody waived by its name. `plan` writes the requests. `rehearse` carries them out in a
 registry of its own, in the folder `rehearsal`, and compares. `run` sends them to the log of this
 host; it may be stopped, and goes on when it is called again. `compare` and `protocol` hold a copy
-of the registry's database (of /var/backups/goo) against the tables; `protocol` signs what was
-found. `verify` checks a protocol and the files beside it. `attach` has the records of this host
-show the documents of the old registry to their holders. `close` has the log of this host take no
-notice of the old registry any more. `find` tells what became of a number.
+of the registry against the tables; `protocol` signs what was found. COPY is a folder of
+/var/backups/goo, by its name or by its path, `last` for the newest one, or a database. `verify`
+checks a protocol and the files beside it. `attach` has the records of this host show the documents
+of the old registry to their holders. `close` has the log of this host take no notice of the old
+registry any more; with --open it takes them again. `find` tells what became of a number.
 
 Exit status 0 where all is well, 1 where a fault or a difference was found, 2 for a usage error, 3
 where something can't be read or was not answered.
@@ -32,10 +33,10 @@ from pathlib import Path
 
 from goo_service.common.client import FULL
 from goo_service.common.client import Client
-from goo_service.common.files import write_whole
 from goo_service.exchange.signature import Key
+from goo_service.copies import going_back
+from goo_service.copies.contents import Unfit
 from goo_service.log import closed
-from goo_service.log.closed import closed_in
 from goo_service.migrate import check
 from goo_service.migrate import documents
 from goo_service.migrate import enquiry
@@ -47,10 +48,11 @@ from goo_service.migrate.numbers import NoRange
 from goo_service.migrate.settings import Settings
 from goo_service.migrate.settings import WrongSettings
 from goo_service.migrate.settings import read as settings_in
+from goo_service.migrate.sums import DIFFERENCES
 from goo_service.migrate.sums import Comparison
 from goo_service.migrate.sums import compare
 
-LOG, PROGRAM = '/run/goo/door.sock', '/usr/bin/goo'
+LOG, PROGRAM, DATABASE = '/run/goo/door.sock', '/usr/bin/goo', 'registry.db'
 GOOD, FOUND, USAGE, FAILED = range(4)
 TOLD = 20
 """Faults of the report, and differences, that are shown at once."""
@@ -64,7 +66,7 @@ def words() -> argparse.Namespace:
         verb = verbs.add_parser(name)
         verb.add_argument('folder', type=Path, metavar='FOLDER')
         if name in ('compare', 'protocol'):
-            verb.add_argument('database', type=Path, metavar='DATABASE')
+            verb.add_argument('copy', metavar='COPY')
         if name == 'rehearse':
             verb.add_argument('--program', default=PROGRAM, metavar='PATH',
                               help=f'the registry\'s program ({PROGRAM})')
@@ -81,6 +83,7 @@ def words() -> argparse.Namespace:
             verb.add_argument('--into', type=Path, default=Path(documents.ATTACHMENTS),
                               metavar='FOLDER', help=f'of the records ({documents.ATTACHMENTS})')
         if name == 'close':
+            verb.add_argument('--open', action='store_true', help='its notices are taken again')
             verb.add_argument('--closed', type=Path, default=Path(closed.PATH), metavar='FILE',
                               help=f'the list of closed registries ({closed.PATH})')
         if name == 'find':
@@ -106,32 +109,30 @@ def do_plan(given: argparse.Namespace, settings: Settings) -> int:
 
 
 def do_rehearse(given: argparse.Namespace, settings: Settings) -> int:
-    done = rehearsal.rehearse(given.folder, settings, given.program)
+    done = rehearsal.rehearse(given.folder, settings, given.program, show)
     print(done.text)
-    protocol.write_sums(given.folder, done.comparison)
-    return tell_comparison(done.comparison)
+    return tell_comparison(given.folder, done.comparison)
 
 
 def do_run(given: argparse.Namespace, settings: Settings) -> int:
     del settings
     client = Client(given.log, fields={**FULL, 'GOO-User': 'goo-migrate'})
-    count = sending.run(given.folder, client, lambda progress: print(progress.text, flush=True))
+    count = sending.run(given.folder, client, show)
     print(f'all {count:,} requests are answered as planned')
     return GOOD
 
 
 def do_compare(given: argparse.Namespace, settings: Settings) -> int:
-    found = compare(given.folder, settings, given.database)
-    protocol.write_sums(given.folder, found)
-    return tell_comparison(found)
+    found = compare(given.folder, settings, database_of(given.copy))
+    return tell_comparison(given.folder, found)
 
 
 def do_protocol(given: argparse.Namespace, settings: Settings) -> int:
     key = Key(given.key)
-    found = compare(given.folder, settings, given.database)
+    found = compare(given.folder, settings, database_of(given.copy))
     protocol.write(given.folder, settings, found, key)
     print(f'{given.folder / protocol.NAME}, signed in {given.folder / protocol.SIGNATURE}')
-    return tell_comparison(found)
+    return tell_comparison(given.folder, found)
 
 
 def do_verify(given: argparse.Namespace, settings: Settings) -> int:
@@ -150,11 +151,12 @@ def do_attach(given: argparse.Namespace, settings: Settings) -> int:
 
 def do_close(given: argparse.Namespace, settings: Settings) -> int:
     path = given.closed
-    line = f'{settings.old_code:02} {settings.old_name}, brought over by goo-migrate\n'
-    if str(settings.old_code) not in closed_in(path):
-        before = path.read_text(encoding='utf-8') if path.exists() else ''
-        write_whole(path, before + line, mode=0o644)
-    print(f'{path}: notices of registry {settings.old_code:02} are taken no more')
+    if given.open:
+        closed.reopen(path, settings.old_code)
+    else:
+        closed.close(path, settings.old_code, f'{settings.old_name}, brought over by goo-migrate')
+    told = 'again' if given.open else 'no more'
+    print(f'{path}: notices of registry {settings.old_code:02} are taken {told}')
     return GOOD
 
 
@@ -165,13 +167,22 @@ def do_find(given: argparse.Namespace, settings: Settings) -> int:
     return GOOD if found else FOUND
 
 
-def tell_comparison(found: Comparison) -> int:
+def database_of(copy: str) -> Path:
+    """The database of a copy, or the file that is named itself."""
+    return Path(copy) if Path(copy).is_file() else going_back.folder_of(copy) / DATABASE
+
+
+def show(progress: sending.Progress) -> None:
+    print(progress.text, flush=True)
+
+
+def tell_comparison(folder: Path, found: Comparison) -> int:
     """Shows both sides, and the differences."""
     for name, side in (('tables', found.stated), ('registry', found.held)):
         print(f'{name}: {side.total:,} certificates in {side.ranges:,} ranges')
     print('\n'.join(found.differences[:TOLD]) or 'no difference')
     if found.count > TOLD:
-        print(f'.. {found.count:,} differences')
+        print(f'.. {found.count:,} differences: see {folder / DIFFERENCES}')
     return FOUND if found.count else GOOD
 
 
@@ -179,7 +190,7 @@ VERBS = {'check': do_check, 'plan': do_plan, 'rehearse': do_rehearse, 'run': do_
          'compare': do_compare, 'protocol': do_protocol, 'verify': do_verify,
          'attach': do_attach, 'close': do_close, 'find': do_find}
 FAULTS = (OSError, LookupError, sqlite3.Error, WrongSettings, plan.NotPlanned, sending.Stopped,
-          NoRange, ValueError)
+          NoRange, ValueError, Unfit)
 
 
 def main() -> int:

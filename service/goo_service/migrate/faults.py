@@ -8,9 +8,10 @@ from dataclasses import dataclass
 NEVER, LEFT_OUT, AS_IT_IS = 'never', 'left out', 'as it is'
 """What becomes of a row whose fault is waived: that can't be, the row stays behind, or is taken."""
 KINDS = {
-    'encoding': ('the file is not text of its encoding', NEVER),
-    'header': ('a column is missing, or stands twice', NEVER),
-    'size': ('the table, or a field of it, is larger than it may be', NEVER),
+    'encoding': ('a field is not text of the encoding that the settings name', NEVER),
+    'csv': ('the table is no CSV from this row on', NEVER),
+    'header': ('a table or a column is missing, or a column stands twice', NEVER),
+    'size': ('the table is larger than it may be', NEVER),
     'fields': ('the row has more or fewer fields than the header', LEFT_OUT),
     'empty': ('a field that must be there is empty', LEFT_OUT),
     'holder-twice': ('two rows have one holder', LEFT_OUT),
@@ -74,10 +75,14 @@ class Fault:
         where = f'{self.table}.csv, row {self.row}' if self.row else f'{self.table}.csv'
         return f'{where}, {self.field}: {self.reason} [{self.name}]'
 
+    @property
+    def waivers(self) -> set[str]:
+        """The texts that waive it: its own name, and the one for all rows of its kind."""
+        return {self.name, f'{self.kind} {self.table}'}
+
     def is_waived(self, waivers: frozenset[str]) -> bool:
-        """Whether the fault is waived, by its own name or with all rows of its kind."""
-        return KINDS[self.kind][1] != NEVER and bool(
-            waivers & {self.name, f'{self.kind} {self.table}'})
+        """Whether it is waived, and can be."""
+        return KINDS[self.kind][1] != NEVER and bool(waivers & self.waivers)
 
     def leaves_out(self) -> bool:
         """Whether the row stays behind where the fault is waived."""

@@ -2,10 +2,12 @@
 import sqlite3
 from collections.abc import Iterator
 
-from goo_service.common import rules
 from goo_service.migrate.faults import Fault
 from goo_service.migrate.settings import Settings
 from goo_service.migrate.tables import Row
+from goo_service.rules.days import hours
+from goo_service.rules.days import months_after
+from goo_service.rules.lots import MWH
 
 STOCK = 'stock'
 ROWS_BY_LOT = '''
@@ -35,7 +37,7 @@ def row_faults(row: Row, days: dict[str, str], commissioned: str,
     if last and issued and not last < issued <= settings.closed_on:
         yield row.fault('issued', 'issued_on', f'{issued} is not after {last}, or is after '
                         f'{settings.closed_on}, the last day of the tables')
-    over = rules.months_after(last, 18) if last else None
+    over = months_after(last, 18) if last else None
     if over and settings.date > over:
         yield row.fault('deadline', 'last_day', f'its certificates expired on {over}')
 
@@ -92,7 +94,7 @@ def too_many(database: sqlite3.Connection) -> Iterator[Fault]:
     for row, first_day, last_day, count, watts in database.execute(LOT_SUMS):
         if last_day < first_day:
             continue
-        most = watts * rules.hours(first_day, last_day)
-        if count * rules.MWH > most:
+        most = watts * hours(first_day, last_day)
+        if count * MWH > most:
             yield Fault('more-than-made', STOCK, row, 'first', f'{count:,} certificates, and '
-                        f'{watts:,} W make {most // rules.MWH:,} from {first_day} to {last_day}')
+                        f'{watts:,} W make {most // MWH:,} from {first_day} to {last_day}')

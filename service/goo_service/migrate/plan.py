@@ -14,14 +14,16 @@ from dataclasses import dataclass
 from pathlib import Path
 from typing import Any
 
-from goo_service.common import rules
-from goo_service.common.rules import Lot
 from goo_service.migrate import work
 from goo_service.migrate.numbers import MOST_COUNT
 from goo_service.migrate.numbers import SERIALS
 from goo_service.migrate.numbers import text_of
 from goo_service.migrate.settings import Settings
 from goo_service.migrate.tables import hash_of
+from goo_service.migrate.tables import hashes
+from goo_service.rules.lots import Lot
+from goo_service.rules.notices import MOST_PARTS
+from goo_service.rules.notices import notice_text
 
 NAME, NUMBERS, CARRIED = 'plan.jsonl', 'numbers.csv', 'carried.csv'
 NUMBER_COLUMNS = ('old_first', 'old_last', 'first', 'last', 'device', 'first_day', 'account')
@@ -85,6 +87,10 @@ def write(folder: Path, settings: Settings) -> int:
         if work.noted(database, 'open') != '0':
             raise NotPlanned(f'{work.noted(database, "open")} faults stand that nobody waived: '
                              'see report.txt')
+        for name, found in hashes(folder).items():
+            if work.noted(database, f'hash {name}') != found:
+                raise NotPlanned(f'{name} is another one than was checked: goo-migrate check '
+                                 f'{folder}')
         database.execute('BEGIN')
         database.execute('UPDATE account SET number = NULL')
         database.execute(ACCOUNT_NUMBERS, (settings.first_account,))
@@ -174,7 +180,7 @@ def notices_of(database: sqlite3.Connection, accounts: list[tuple[int, str]],
     for number, old in accounts:
         parts: list[Part] = []
         for part in joined_parts(database, old, settings):
-            if len(parts) == rules.MOST_PARTS:
+            if len(parts) == MOST_PARTS:
                 yield number, parts
                 parts = []
             parts.append(part)
@@ -200,8 +206,8 @@ def joined_parts(database: sqlite3.Connection, account: str, settings: Settings)
 def import_step(settings: Settings, holder: str, number: int, account: int,
                 parts: list[Part]) -> Step:
     """The import of a notice of the old registry."""
-    notice = json.loads(rules.notice_text(settings.old_code, settings.new_code, number, account,
-                                          parts))
+    notice = json.loads(notice_text(settings.old_code, settings.new_code, number, account,
+                                    parts))
     body = {'command': 'import', 'key': key_of('notice', notice), 'notice': notice}
     return Step(holder, body, {'count': sum(last - first + 1 for first, last, _ in parts)})
 

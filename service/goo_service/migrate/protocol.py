@@ -4,7 +4,6 @@ protocol.json states hashes of the tables, the settings and the plan, the faults
 the sums on both sides, and when it was written. protocol.sig is its Ed25519 signature by the key of
 the issuing body, in base64. Sums and protocol can be made again from the same files.
 """
-import hashlib
 import json
 import time
 from pathlib import Path
@@ -19,23 +18,20 @@ from goo_service.migrate import settings as settings_of
 from goo_service.migrate import tables
 from goo_service.migrate import work
 from goo_service.migrate.settings import Settings
+from goo_service.migrate.sums import HELD_NAME as HELD
+from goo_service.migrate.sums import STATED_NAME as STATED
 from goo_service.migrate.sums import Comparison
+from goo_service.migrate.sums import Sums
 
-NAME, SIGNATURE, STATED, HELD = 'protocol.json', 'protocol.sig', 'sums-tables', 'sums-registry'
+NAME, SIGNATURE = 'protocol.json', 'protocol.sig'
 LISTS = (plan.NUMBERS, plan.CARRIED)
-
-
-def write_sums(folder: Path, comparison: Comparison) -> None:
-    """Both sides' sums, a file each, so that `diff` shows nothing where they are equal."""
-    write_whole(folder / STATED, comparison.stated.text())
-    write_whole(folder / HELD, comparison.held.text())
 
 
 def stated(folder: Path, settings: Settings, comparison: Comparison) -> dict[str, Any]:
     """What the protocol states."""
     current, count = sending.planned(folder)
     with work.opened(folder) as database:
-        hashes = {table: work.noted(database, f'hash {table}') for table in settings_of.COLUMNS}
+        hashes = {table: work.noted(database, f'hash {table}.csv') for table in settings_of.COLUMNS}
         waived = database.execute('SELECT kind, count(*) FROM fault WHERE waived GROUP BY kind '
                                   'ORDER BY kind').fetchall()
         left = database.execute('SELECT source, count(*) FROM left_out GROUP BY source '
@@ -52,8 +48,8 @@ def stated(folder: Path, settings: Settings, comparison: Comparison) -> dict[str
         'plan': {'SHA-256': current, 'requests': count, 'answered': sending.place(folder, current)},
         'faults waived': dict(waived), 'rows left out': dict(left),
         'carried energy': settings.choice,
-        'sums of the tables': sums(comparison.stated.text(), comparison.stated.total),
-        'sums of the registry': sums(comparison.held.text(), comparison.held.total),
+        'sums of the tables': sums(folder / STATED, comparison.stated),
+        'sums of the registry': sums(folder / HELD, comparison.held),
         'differences': comparison.count,
         'documents': [{'file': file, 'bytes': size, 'SHA-256': found, 'holder': holder,
                        'about': about} for file, size, found, holder, about in papers],
@@ -61,13 +57,12 @@ def stated(folder: Path, settings: Settings, comparison: Comparison) -> dict[str
     }
 
 
-def sums(text: str, certificates: int) -> dict[str, Any]:
-    return {'certificates': certificates, 'SHA-256': hashlib.sha256(text.encode()).hexdigest()}
+def sums(path: Path, of: Sums) -> dict[str, Any]:
+    return {'certificates': of.total, 'ranges': of.ranges, 'SHA-256': tables.hash_of(path)}
 
 
 def write(folder: Path, settings: Settings, comparison: Comparison, key: Key) -> None:
-    """Writes the protocol and its signature."""
-    write_sums(folder, comparison)
+    """Writes the protocol of a comparison, and its signature."""
     text = json.dumps(stated(folder, settings, comparison), indent=2, ensure_ascii=False) + '\n'
     write_whole(folder / NAME, text)
     write_whole(folder / SIGNATURE, f'{key.signature(text).strip()} {key.public}\n')

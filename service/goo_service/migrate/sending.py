@@ -53,13 +53,35 @@ class Progress:
     """Since this run began."""
     here: int
     """Requests that this run has sent."""
+    now: float
+    """Seconds since 1970."""
 
     @property
     def text(self) -> str:
         rate = self.here / self.seconds if self.seconds else 0
-        left = (self.of - self.done) / rate if rate else 0
-        return (f'{self.done:,} of {self.of:,} requests, {rate:,.0f} a second, '
-                f'{int(left // 60)} min {int(left % 60):02} s left')
+        left = self.of - self.done
+        end = time.localtime(self.now + left / rate) if rate else None
+        told = f'ends at {time.strftime("%a %H:%M:%S", end)}' if end else 'no end is known yet'
+        return f'{self.done:,} done, {left:,} left, {rate:,.1f} a second, {told}'
+
+
+Show = Callable[[Progress], None]
+
+
+class Meter:
+    """Counts requests that are answered, and shows how far it is: once a second, and at the end."""
+
+    def __init__(self, of: int, done: int, show: Show) -> None:
+        self.of, self.done, self.start, self.show = of, done, done, show
+        self.begun = self.shown = time.monotonic()
+
+    def add(self, count: int) -> None:
+        self.done += count
+        now = time.monotonic()
+        if self.done == self.of or now - self.shown > 1:
+            self.shown = now
+            self.show(Progress(self.done, self.of, now - self.begun, self.done - self.start,
+                               time.time()))
 
 
 def place(folder: Path, current: str) -> int:
@@ -88,10 +110,10 @@ def planned(folder: Path) -> tuple[str, int]:
     return current, int(count)
 
 
-def steps_in(folder: Path) -> Iterator[Step]:
-    """The requests of the plan."""
+def steps_in(folder: Path, behind: int = 0) -> Iterator[Step]:
+    """The requests of the plan, behind so many of them."""
     with (folder / plan.NAME).open(encoding='utf-8') as file:
-        for line in file:
+        for line in itertools.islice(file, behind, None):
             yield plan.step_of(line)
 
 
@@ -119,19 +141,16 @@ def bundles_of(steps: Iterable[Step]) -> Iterator[Bundle]:
         yield Bundle(taken, b'\n'.join(lines))
 
 
-def run(folder: Path, client: Client, show: Callable[[Progress], None]) -> int:
+def run(folder: Path, client: Client, show: Show) -> int:
     """Sends what is left of a plan; how many requests it has. Stopped where one is not accepted."""
     current, count = planned(folder)
-    begun, done = time.monotonic(), place(folder, current)
-    start, shown = done, begun
-    for bundle in bundles_of(itertools.islice(steps_in(folder), done, None)):
+    done = place(folder, current)
+    progress = Meter(count, done, show)
+    for bundle in bundles_of(steps_in(folder, done)):
         send(client, bundle)
         done += len(bundle.steps)
         write_whole(folder / NAME, json.dumps(asdict(Sent(current, done))) + '\n')
-        now = time.monotonic()
-        if done == count or now - shown > 1:
-            shown = now
-            show(Progress(done, count, now - begun, done - start))
+        progress.add(len(bundle.steps))
     return count
 
 

@@ -22,7 +22,8 @@
     [numbers]
     form = "own"                    # "own": 14 digits, the old registry's code in front
                                     # "serial": `pattern` finds the serial in an old number
-                                    # "assigned": serials are given anew, in the order of the table
+                                    # "assigned": serials are given anew, in the order of the old
+                                    # numbers
     pattern = "AT-([0-9]+)"         # the one group is what is counted
 
     [holders]                       # the new code of a holder; without a line the old one is kept
@@ -32,11 +33,12 @@
     [countries]                     # likewise [technologies], [sources], [carriers], [supports]
     "Germany" = "DE"
 
-    [carry]
+    [carry]                         # where carried.csv is there
     choice = "added"                # or "left out": what is told to the auditor for each device
 
     waive = ["deadline stock", "name holders 12"]     # in front of all sections
 """
+import json
 import re
 import tomllib
 from dataclasses import dataclass
@@ -53,8 +55,11 @@ ENCODINGS = ('utf-8', 'cp1252', 'iso-8859-1', 'iso-8859-15')
 DELIMITERS = (',', ';', '\t')
 NUMBERS = ('own', 'serial', 'assigned')
 CHOICES = ('added', 'left out')
-WORDS = ('holders', 'names', 'countries', 'technologies', 'sources', 'carriers', 'supports')
-"""The sections that say what a word of the old tables becomes."""
+WORDS: dict[str, forms.Reader] = {
+    'holders': forms.holder_code, 'names': forms.name, 'countries': forms.country,
+    'technologies': forms.technology, 'sources': forms.source, 'carriers': forms.carrier,
+    'supports': forms.support}
+"""The sections that say what a word of the old tables becomes, and the form that it has to have."""
 COLUMNS: dict[str, tuple[str, ...]] = {
     'holders': ('holder', 'name'),
     'accounts': ('account', 'holder'),
@@ -165,7 +170,7 @@ def settings_of(whole: dict[str, Any]) -> Settings:
         days=tables.choose('days', tuple(forms.DAYS)),
         capacity=tables.choose('capacity', tuple(forms.WATTS)),
         numbers=numbers.choose('form', NUMBERS), pattern=str(numbers.take('pattern', str, '')),
-        choice=carry.choose('choice', CHOICES), columns=columns_of(whole),
+        choice=carry.choose('choice', CHOICES) if carry.left else '', columns=columns_of(whole),
         words={name: words_of(whole, name) for name in WORDS}, waivers=waivers_of(whole))
     for section in (old, new, tables, numbers, carry):
         section.end()
@@ -206,6 +211,12 @@ def words_of(whole: dict[str, Any], name: str) -> dict[str, str]:
     words = whole.pop(name, {})
     must(isinstance(words, dict) and all(type(word) is str for word in words.values()),
          f'[{name}] has a value that is no text')
+    for old, word in words.items():
+        try:
+            WORDS[name](word)
+        except forms.Unfit as reason:
+            raise WrongSettings(f'{NAME}: [{name}] {json.dumps(old, ensure_ascii=False)}: '
+                                f'{reason}') from reason
     return dict(words)
 
 

@@ -1,7 +1,8 @@
 """Sums on both sides: what the tables of the old registry state, and what the new registry holds.
 
 Both are read as ranges in the order of their numbers, and compared certificate by certificate. The
-registry is read from a copy of its database, never from the running one.
+registry is read from a copy of its database, never from the running one. No side is in memory as a
+whole: a country has millions of ranges.
 """
 import sqlite3
 from collections import Counter
@@ -12,14 +13,17 @@ from dataclasses import dataclass
 from dataclasses import field
 from pathlib import Path
 from typing import Any
+from typing import TextIO
 
-from goo_service.common.rules import months_after
+from goo_service.common.files import write_whole
 from goo_service.migrate import work
 from goo_service.migrate.numbers import SERIALS
 from goo_service.migrate.numbers import text_of
 from goo_service.migrate.settings import Settings
+from goo_service.rules.days import months_after
 
-TOLD = 1000
+STATED_NAME, HELD_NAME, DIFFERENCES = 'sums-tables', 'sums-registry', 'differences'
+TOLD = 100_000
 """Differences that are told one by one."""
 STATED = '''
 SELECT s.first, s.first + s.count - 1, a.number, s.device, d.country, d.site, d.tech, d.source,
@@ -34,6 +38,16 @@ SELECT p.first, p.last, p.account, l.device, l.country, l.site, l.tech, l.source
 FROM piece AS p JOIN lot AS l ON l.id = p.lot LEFT JOIN lot_carrier AS c ON c.lot = l.id
 WHERE p.first BETWEEN ? AND ? AND p.kind = 1 ORDER BY p.first
 '''
+STATED_LOTS = '''
+SELECT a.number, s.device, s.first_day, sum(s.count)
+FROM kept_stock AS s JOIN kept_account AS a ON a.old = s.account GROUP BY 1, 2, 3 ORDER BY 1, 2, 3
+'''
+HELD_LOTS = '''
+SELECT p.account, l.device, l.first_day, sum(p.last - p.first + 1)
+FROM piece AS p JOIN lot AS l ON l.id = p.lot
+WHERE p.first BETWEEN ? AND ? AND p.kind = 1 GROUP BY 1, 2, 3 ORDER BY 1, 2, 3
+'''
+"""The certificates of an account and lot: how many they are."""
 REGISTERED = '''
 SELECT d.gsrn, d.account, d.country, d.site, d.tech, d.source, d.capacity_w, d.commissioned,
        d.support, coalesce(c.carrier, 'electricity')
@@ -59,16 +73,14 @@ Run = tuple[Any, ...]
 class Sums:
     """Certificates counted in several ways."""
 
-    by_account_and_lot: Counter[tuple[object, ...]] = field(default_factory=Counter)
     by_kind: Counter[tuple[object, ...]] = field(default_factory=Counter)
     """By technology, month of production, and country."""
     by_deadline: Counter[tuple[object, ...]] = field(default_factory=Counter)
     ranges: int = 0
 
     def add(self, run: Run) -> None:
-        first, last, account, device, country, _, tech, *_, first_day, last_day, _, _ = run
+        first, last, _, _, country, _, tech, *_, first_day, last_day, _, _ = run
         count = last - first + 1
-        self.by_account_and_lot[account, device, first_day] += count
         self.by_kind[tech, first_day[:7], country] += count
         self.by_deadline[months_after(last_day, 18) or 'never',] += count
         self.ranges += 1
@@ -77,16 +89,15 @@ class Sums:
     def total(self) -> int:
         return self.by_deadline.total()
 
-    def text(self) -> str:
-        """All sums, a line each, in one order."""
-        parts = (('account, device, first day', self.by_account_and_lot),
-                 ('technology, month, country', self.by_kind), ('deadline', self.by_deadline))
-        lines = [f'certificates {self.total} in {self.ranges} ranges']
-        for name, counted in parts:
-            lines.append(f'by {name}')
-            lines += [f'{" ".join(map(str, key))} {count}' for key, count
-                      in sorted(counted.items()) if count]
-        return '\n'.join(lines) + '\n'
+    def lines(self) -> Iterator[str]:
+        """The sums, in one order, but for those by account and lot."""
+        yield f'certificates {self.total} in {self.ranges} ranges'
+        for name, counted in (('technology, month, country', self.by_kind),
+                              ('deadline', self.by_deadline)):
+            yield f'by {name}'
+            for key, count in sorted(counted.items()):
+                yield f'{words(key)} {count}'
+        yield 'by account, device, first day'
 
 
 @dataclass
@@ -104,6 +115,11 @@ class Comparison:
         if self.count <= TOLD:
             self.differences.append(difference)
 
+    def tell_sums(self, key: Run, stated: int, held: int) -> None:
+        """Keeps a difference of two sums."""
+        if stated != held:
+            self.tell(f'{words(key)}: {stated:,} in the tables, {held:,} in the registry')
+
 
 def joined(runs: Iterable[Run]) -> Iterator[Run]:
     """Runs in the order of their numbers, with those made one that follow and state the same."""
@@ -119,53 +135,96 @@ def joined(runs: Iterable[Run]) -> Iterator[Run]:
         yield before
 
 
+def paired(stated: Iterable[Run], held: Iterable[Run],
+           width: int) -> Iterator[tuple[Run | None, Run | None]]:
+    """The rows of two lists side by side, None where one side has none.
+
+    Both are in the order of their first columns, of which so many make the key.
+    """
+    rows, others = iter(stated), iter(held)
+    row, other = next(rows, None), next(others, None)
+    while row or other:
+        takes_row = row is not None and (other is None or row[:width] <= other[:width])
+        takes_other = other is not None and (row is None or other[:width] <= row[:width])
+        yield row if takes_row else None, other if takes_other else None
+        row = next(rows, None) if takes_row else row
+        other = next(others, None) if takes_other else other
+
+
+def unchanged(registry: Path) -> sqlite3.Connection:
+    """A database of which nothing is written, and beside which no file comes.
+
+    A copy of /var/backups/goo would be one that was not made so. ValueError where it is in use.
+    """
+    if registry.with_name(f'{registry.name}-wal').exists():
+        raise ValueError(f'{registry} is in use, or was not closed: take a copy')
+    return sqlite3.connect(f'{registry.resolve().as_uri()}?mode=ro&immutable=1', uri=True)
+
+
 def compare(folder: Path, settings: Settings, registry: Path) -> Comparison:
-    """Compares the tables of a migration with a copy of the registry's database."""
-    uri = f'{registry.resolve().as_uri()}?mode=ro'
+    """Compares the tables of a migration with a copy of the registry's database.
+
+    The sums are written to a file for each side, so that `diff` shows nothing where they are equal,
+    and the differences to a file of theirs.
+    """
     found = Comparison()
-    with work.opened(folder) as tables, closing(sqlite3.connect(uri, uri=True)) as database:
+    with work.opened(folder) as tables, closing(unchanged(registry)) as database:
         for name, (stated, held) in LISTS.items():
             compare_rows(name, tables.execute(stated), database.execute(held), found)
         span = settings.old_code * SERIALS, (settings.old_code + 1) * SERIALS - 1
         compare_runs(joined(tables.execute(STATED)), joined(database.execute(HELD, span)), found)
-    for name in ('by_account_and_lot', 'by_kind', 'by_deadline'):
-        one, other = getattr(found.stated, name), getattr(found.held, name)
-        for key in sorted(key for key in one | other if one[key] != other[key]):
-            found.tell(f'{" ".join(map(str, key))}: {one[key]:,} in the tables, {other[key]:,} '
-                       'in the registry')
+        for name in ('by_kind', 'by_deadline'):
+            one, other = getattr(found.stated, name), getattr(found.held, name)
+            for key in sorted(one | other):
+                found.tell_sums(key, one[key], other[key])
+        parts = [folder / f'{name}.part' for name in (STATED_NAME, HELD_NAME)]
+        with parts[0].open('w', encoding='utf-8') as of_tables, \
+                parts[1].open('w', encoding='utf-8') as of_registry:
+            of_tables.writelines(f'{line}\n' for line in found.stated.lines())
+            of_registry.writelines(f'{line}\n' for line in found.held.lines())
+            compare_lots(written(tables.execute(STATED_LOTS), of_tables),
+                         written(database.execute(HELD_LOTS, span), of_registry), found)
+    for part in parts:
+        part.replace(part.with_suffix(''))
+    write_whole(folder / DIFFERENCES, ''.join(f'{line}\n' for line in found.differences))
     return found
+
+
+def written(rows: Iterable[Run], file: TextIO) -> Iterator[Run]:
+    """Rows, each of which is written as a line too."""
+    for row in rows:
+        file.write(f'{words(row)}\n')
+        yield row
+
+
+def compare_lots(stated: Iterable[Run], held: Iterable[Run], found: Comparison) -> None:
+    """Compares the sums by account and lot."""
+    for row, other in paired(stated, held, 3):
+        found.tell_sums((row or other or ())[:3], row[3] if row else 0, other[3] if other else 0)
 
 
 def compare_rows(name: str, stated: Iterable[Run], held: Iterable[Run], found: Comparison) -> None:
     """Compares two lists in one order by their first column."""
-    one, other = ({row[0]: row[1:] for row in rows} for rows in (stated, held))
-    for key in sorted(one.keys() | other.keys()):
-        if one.get(key) != other.get(key):
-            found.tell(f'{name} {key}: {words(one.get(key))} in the tables, '
-                       f'{words(other.get(key))} in the registry')
+    for row, other in paired(stated, held, 1):
+        if row != other:
+            key, *_ = row or other or ('',)
+            found.tell(f'{name} {key}: {words(row and row[1:])} in the tables, '
+                       f'{words(other and other[1:])} in the registry')
 
 
 def words(values: Run | None) -> str:
     return 'nothing' if values is None else ' '.join(map(str, values))
 
 
-def compare_runs(stated: Iterator[Run], held: Iterator[Run], found: Comparison) -> None:
+def compare_runs(stated: Iterable[Run], held: Iterable[Run], found: Comparison) -> None:
     """Compares two lists of runs by the first numbers, and adds up both."""
-    one, other = next(stated, None), next(held, None)
-    while one or other:
-        takes_one = one is not None and (other is None or one[0] <= other[0])
-        takes_other = other is not None and (one is None or other[0] <= one[0])
-        if one != other:
-            if takes_one and one:
-                found.tell(f'in the tables, and not so in the registry: {run_text(one)}')
-            if takes_other and other:
-                found.tell(f'in the registry, and not so in the tables: {run_text(other)}')
-        if takes_one and one:
-            found.stated.add(one)
-            one = next(stated, None)
-        if takes_other and other:
-            found.held.add(other)
-            other = next(held, None)
+    for run, other in paired(stated, held, 1):
+        for one, sums, where in ((run, found.stated, 'in the tables, and not so in the registry'),
+                                 (other, found.held, 'in the registry, and not so in the tables')):
+            if one:
+                sums.add(one)
+            if one and run != other:
+                found.tell(f'{where}: {run_text(one)}')
 
 
 def run_text(run: Run) -> str:

@@ -1,12 +1,17 @@
 """The tables of an old registry, read row by row."""
+import codecs
+import contextlib
 import csv
 import hashlib
+import json
 from collections.abc import Iterator
 from dataclasses import dataclass
 from pathlib import Path
 
 from goo_service.migrate.faults import Fault
 from goo_service.migrate.settings import COLUMNS
+from goo_service.migrate.settings import DELIMITERS
+from goo_service.migrate.settings import NAME
 from goo_service.migrate.settings import Settings
 
 FOLDER = 'tables'
@@ -56,6 +61,12 @@ def hash_of(path: Path) -> str:
     return digest.hexdigest()
 
 
+def hashes(folder: Path) -> dict[str, str]:
+    """The SHA-256 of each table that is there, and of the settings, by the name of its file."""
+    paths = [path_of(folder, table) for table in COLUMNS] + [folder / NAME]
+    return {path.name: hash_of(path) for path in paths if path.exists()}
+
+
 def rows_in(folder: Path, table: str, settings: Settings) -> Iterator[Row | Fault]:
     """The rows of a table, each or its fault. Refused where it can't be read on."""
     path, number = path_of(folder, table), 0
@@ -63,30 +74,26 @@ def rows_in(folder: Path, table: str, settings: Settings) -> Iterator[Row | Faul
     try:
         if path.stat().st_size > MOST_BYTES:
             raise Refused(Fault('size', table, 0, 'file', f'it has more than {MOST_BYTES} bytes'))
-        with path.open(encoding=settings.encoding, newline='') as file:
-            file.seek(3 if has_mark(path) else 0)
+        with path.open(encoding=settings.encoding, errors='surrogateescape', newline='') as file:
+            file.seek(mark_length(table, path))
             records = csv.reader(file, delimiter=settings.delimiter, strict=True)
             places = places_of(table, next(records, []), settings)
-            for number, record in enumerate(filled(records), 1):
-                yield row_of(table, number, record, places)
-    except UnicodeDecodeError as fault:
-        raise Refused(Fault('encoding', table, number + 1, 'file',
-                            f'it is not text in {settings.encoding} ({fault.reason})')) from fault
+            for number, record in enumerate(records, 1):
+                if record:                  # and no blank line
+                    yield row_of(table, number, record, places, settings.encoding)
     except csv.Error as fault:
-        raise Refused(Fault('size', table, number + 1, 'file', str(fault))) from fault
+        raise Refused(Fault('csv', table, number + 1, 'row', f'it is no CSV: {fault}')) from fault
     except OSError as fault:
         raise Refused(Fault('header', table, 0, 'file', fault.strerror or str(fault))) from fault
 
 
-def has_mark(path: Path) -> bool:
-    """Whether a file begins with the byte order mark of UTF-8."""
+def mark_length(table: str, path: Path) -> int:
+    """The length of the byte order mark in front; Refused where it is that of UTF-16."""
     with path.open('rb') as file:
-        return file.read(3) == b'\xef\xbb\xbf'
-
-
-def filled(records: Iterator[list[str]]) -> Iterator[list[str]]:
-    """The records that are no blank lines."""
-    return (record for record in records if record)
+        begin = file.read(3)
+    if begin[:2] in (codecs.BOM_UTF16_LE, codecs.BOM_UTF16_BE):
+        raise Refused(Fault('encoding', table, 0, 'file', 'it is UTF-16: save it as UTF-8'))
+    return len(codecs.BOM_UTF8) if begin == codecs.BOM_UTF8 else 0
 
 
 @dataclass(frozen=True)
@@ -103,12 +110,23 @@ def places_of(table: str, header: list[str], settings: Settings) -> Places:
     for name, called in names.items():
         if header.count(called) != 1:
             found = 'twice' if called in header else 'not there'
+            told = ''.join(letter if letter.isprintable() else '?'
+                           for letter in ', '.join(header)[:200])
+            hint = delimiter_hint(header, settings)
             raise Refused(Fault('header', table, 0, name, f'column {called!r} is {found}; the '
-                                f'header has {", ".join(header)[:200] or "nothing"}'))
+                                f'header has {told or "nothing"}{hint}'))
     return Places(len(header), {name: header.index(called) for name, called in names.items()})
 
 
-def row_of(table: str, number: int, record: list[str], places: Places) -> Row | Fault:
+def delimiter_hint(header: list[str], settings: Settings) -> str:
+    """What to change where a header is one field by the delimiter, and more by another one."""
+    text = header[0] if len(header) == 1 else ''
+    other = next((one for one in DELIMITERS if one in text and one != settings.delimiter), '')
+    return f'; say delimiter = {json.dumps(other)} under [tables]' if other else ''
+
+
+def row_of(table: str, number: int, record: list[str], places: Places,
+           encoding: str) -> Row | Fault:
     """A row with its fields, or why it has not got them."""
     if number > MOST_ROWS:
         raise Refused(Fault('size', table, number, 'file', f'it has more than {MOST_ROWS} rows'))
@@ -117,4 +135,25 @@ def row_of(table: str, number: int, record: list[str], places: Places) -> Row | 
                      f'it has {len(record)} fields, and the header has {places.width}')
     if long := next((len(field) for field in record if len(field) > MOST_FIELD), 0):
         return Fault('fields', table, number, 'row', f'a field has {long} characters')
-    return Row(table, number, {name: record[at].strip() for name, at in places.by_name.items()})
+    fields = {name: record[at].strip() for name, at in places.by_name.items()}
+    for name, text in fields.items():
+        if not text.isascii() and (why := encoding_fault(text, encoding)):
+            return Fault('encoding', table, number, name, why)
+    return Row(table, number, fields)
+
+
+def encoding_fault(text: str, encoding: str) -> str:
+    """Why a field is not text of the encoding; '' where it is.
+
+    Bytes that the encoding has not are surrogates in the text. Bytes of another encoding that are
+    letters in UTF-8 are such: no table has these sequences by chance.
+    """
+    advice = 'is encoding under [tables] right?'
+    if lost := [ord(letter) - 0xDC00 for letter in text if 0xDC80 <= ord(letter) <= 0xDCFF]:
+        return f'it is not text in {encoding}: byte {lost[0]:#04x} in {text[:40]!a}; {advice}'
+    if encoding == 'utf-8':
+        return ''
+    with contextlib.suppress(UnicodeDecodeError):
+        return f'it is {text.encode(encoding).decode()[:40]!r} in utf-8, and {encoding} reads ' \
+               f'{text[:40]!r}; {advice}'
+    return ''

@@ -26,9 +26,9 @@ from goo_service.records.schema import searched
 RANGES = 20
 """Ranges that are shown with an act in a list; the act by itself has all."""
 ACT_FILTERS = {name: f'act.{name} = ?' for name in
-               ('kind', 'outcome', 'refusal', 'caller', 'user', 'role', 'device', 'peer', 'number',
-                'bundle')}
-OWN_ALONE = ('user', 'role', 'key')
+               ('kind', 'outcome', 'refusal', 'caller', 'user', 'role', 'way', 'confirmed',
+                'device', 'peer', 'number', 'bundle')}
+OWN_ALONE = ('user', 'role', 'way', 'confirmed', 'key')
 """Members of an act that its own side and the issuing body see. Nobody else finds it by them."""
 FEW, MOST_THREES = 20_000, 60
 """Acts that are read one by one where a text is looked for: of more the index of texts leads to
@@ -105,7 +105,9 @@ def start_of(database: sqlite3.Connection, viewer: Viewer, given: Given,
         return 'touched', Conditions(('touched.account = ?', (account,)), *who)
     if viewer.sees_all:
         return 'act', Conditions()
-    return 'seen', Conditions(('seen.viewer = ?', (viewer.caller,)), *of_account(account))
+    who = [('seen.viewer = ?', (viewer.caller,))]
+    narrowed = [viewer.of_acts()] if viewer.only is not None else []
+    return 'seen', Conditions(*who, *narrowed, *of_account(account))
 
 
 def count_of(database: sqlite3.Connection, table: str, column: str, value: object) -> int:

@@ -68,6 +68,7 @@ class Attachments:
             raise OSError(f'{self.folder / LIST} can not be read') from fault
 
     def seen_by(self, viewer: Viewer) -> list[Attachment]:
+        viewer.may_all_of_holder()
         return [of for of in self.read() if viewer.sees_all or of.holder == viewer.caller]
 
     def listed(self, viewer: Viewer, given: Given) -> Listed:

@@ -1,10 +1,10 @@
 """The book of acts: an SQLite file that is made from the log of requests, for people who search and
 choose. The registry never reads it.
 
-Each accepted request is carried out once more by rules.py, in memory, and what it changed is
-written here: the act, the ranges of certificates that it moved, and the rows that it left. Refused
-and unreadable requests are acts that changed nothing; so are writes that a user's role did not
-allow. The file can be made anew at any time.
+Each accepted request is carried out once more by goo_service.rules, in memory, and what it changed
+is written here: the act, the ranges of certificates that it moved, and the rows that it left.
+Refused and unreadable requests are acts that changed nothing; so are writes that a user's role did
+not allow. The file can be made anew at any time.
 """
 import json
 from collections.abc import Callable
@@ -12,14 +12,6 @@ from dataclasses import dataclass
 from dataclasses import replace
 from typing import Any
 
-from goo_service.common import rules
-from goo_service.common.rules import Again
-from goo_service.common.rules import EXPORTED
-from goo_service.common.rules import ISSUER
-from goo_service.common.rules import Lot
-from goo_service.common.rules import PLANT
-from goo_service.common.rules import compact
-from goo_service.common.rules import months_after
 from goo_service.log import bundles
 from goo_service.log import roles
 from goo_service.log.entries import Entry
@@ -39,6 +31,15 @@ from goo_service.records.registry import Change
 from goo_service.records.schema import Mismatch
 from goo_service.records.schema import folded
 from goo_service.records.writer import Writer
+from goo_service.rules import replies
+from goo_service.rules.certificates import EXPORTED
+from goo_service.rules.commands import ISSUER
+from goo_service.rules.commands import plain_of
+from goo_service.rules.commands import compact
+from goo_service.rules.days import months_after
+from goo_service.rules.lots import Lot
+from goo_service.rules.lots import PLANT
+from goo_service.rules.refusals import Again
 
 KINDS = {
     'declare': 'issue', 'correct': 'correction', 'transfer': 'transfer', 'cancel': 'cancellation',
@@ -73,6 +74,8 @@ class At:
     time: str | None = None
     user: str | None = None
     role: str | None = None
+    way: str | None = None
+    confirmed: str | None = None
     line: int = 0
     rows: int = 0
     lines: str | None = None
@@ -97,7 +100,8 @@ class Book(Writer):
     def apply(self, record: Record) -> None:
         """Writes what an entry of the archive did."""
         entry, outcome = record.entry, record.outcome
-        at = At(entry.n, entry.caller, entry.time, entry.user, entry.role)
+        at = At(entry.n, entry.caller, entry.time, entry.user, entry.role, entry.way or None,
+                entry.confirmed or None)
         is_write = entry.method == 'POST'
         if is_write and not roles.allows(entry.role, entry.method, entry.route, entry.body):
             self.apply_beyond_role(at, entry, outcome)
@@ -145,7 +149,7 @@ class Book(Writer):
         if outcome.status != 200:
             return self.apply_refused_bundle(at, body, outcome)
         together = bundle_lines.Together()
-        for line, answer in bundles.answered(body, outcome.body):
+        for line, answer in bundles.read_outcomes(body, outcome.body):
             if not together.add(line.number, kind_of(line.command), answer):
                 self.apply_answered(replace(at, line=line.number, rows=1), line.body, answer)
         for (kind, *_), same in together.kinds.items():
@@ -178,8 +182,7 @@ class Book(Writer):
             return
         if result.outcome in ('accepted', 'repeated'):
             self.accepted.add((at.caller, key))
-            plain = {name: value for name, value in command.items() if name != 'key'}
-            self.accept(at, key, plain, result)
+            self.accept(at, key, plain_of(command), result)
         else:
             self.add_act(at, kind_of(word), result, parties_of(command, {}),
                          key if isinstance(key, str) else None)
@@ -194,7 +197,7 @@ class Book(Writer):
         except Exception as fault:     # whatever the reason, rules and registry differ
             raise Mismatch(f'entry {at.entry}: the registry accepted it, the rules say '
                            f'{fault!r}') from fault
-        reply = rules.reply(*answer)
+        reply = replies.reply(*answer)
         if result.reply is not None and result.reply != reply:
             raise Mismatch(f'entry {at.entry}: the registry answered {result.reply}, the rules '
                            f'{reply}')
@@ -224,9 +227,9 @@ class Book(Writer):
         self.acts, self.waiting = self.acts + 1, self.waiting + 1
         refusal = None if result.outcome == 'accepted' else result.refusal
         self.insert('act', self.acts, at.entry, at.line, at.rows, at.lines, at.time, at.user,
-                    at.role, at.caller, self.registry.today, kind, result.outcome, refusal, key,
-                    of.holder, of.giver, of.taker, of.device, of.peer, number, of.wh, of.note,
-                    at.bundle)
+                    at.role, at.way, at.confirmed, at.caller, self.registry.today, kind,
+                    result.outcome, refusal, key, of.holder, of.giver, of.taker, of.device, of.peer,
+                    number, of.wh, of.note, at.bundle)
         self.show(at.caller, self.acts)
         if result.outcome == 'accepted':
             self.show(of.holder, self.acts)

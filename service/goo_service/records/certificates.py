@@ -1,7 +1,6 @@
 """Certificates: one by its number, what is held, what has a deadline, and a choice by quantity."""
 import sqlite3
 
-from goo_service.common.rules import PLACES
 from goo_service.records.acts import party_of
 from goo_service.records.acts import shown_act
 from goo_service.records.questions import BadQuestion
@@ -21,6 +20,7 @@ from goo_service.records.questions import plant_filters
 from goo_service.records.questions import read
 from goo_service.records.questions import rows_of
 from goo_service.records.questions import text_of
+from goo_service.rules.certificates import PLACES
 
 LOT_COLUMNS = ', '.join(f'lot.{name}' for name in (
     'origin', 'device', 'country', 'site', 'tech', 'source', 'capacity_w', 'commissioned',

@@ -20,12 +20,6 @@ from dataclasses import field
 from pathlib import Path
 
 from goo_service.common.owner import owner_of
-from goo_service.common.rules import Again
-from goo_service.common.rules import Lot
-from goo_service.common.rules import LOT
-from goo_service.common.rules import PLANT
-from goo_service.common.rules import Place
-from goo_service.common.rules import Registry
 from goo_service.copies import contents
 from goo_service.copies.expected import ROWS
 from goo_service.log import bundles
@@ -44,6 +38,13 @@ from goo_service.records.facts import facts_of_registry
 from goo_service.records.registry import WatchedRegistry
 from goo_service.records.schema import Mismatch
 from goo_service.records.schema import read_moment
+from goo_service.rules.certificates import Place
+from goo_service.rules.commands import plain_of
+from goo_service.rules.lots import Lot
+from goo_service.rules.lots import LOT
+from goo_service.rules.lots import PLANT
+from goo_service.rules.refusals import Again
+from goo_service.rules.registry import Registry
 
 SHOWN = 20
 """Differences that are told one by one."""
@@ -134,7 +135,7 @@ def accepted_in(record: entries.Record) -> Iterator[Accepted]:
             command = command_of(entry.body)
             yield accepted_of(entry.caller, command, members['outcome'])
     elif entry.route in bundles.ROUTES:
-        for line, answer in bundles.answered(entry.body, outcome.body):
+        for line, answer in bundles.read_outcomes(entry.body, outcome.body):
             if answer['outcome'] in ('accepted', 'repeated'):
                 yield accepted_of(entry.caller, command_of(line.body), answer['outcome'])
     elif entry.route == TABLE_ROUTE:
@@ -144,8 +145,7 @@ def accepted_in(record: entries.Record) -> Iterator[Accepted]:
 
 
 def accepted_of(caller: str, command: Command, outcome: str) -> Accepted:
-    plain = {name: value for name, value in command.items() if name != 'key'}
-    return Accepted(caller, command.get('key'), plain, outcome == 'repeated')
+    return Accepted(caller, command.get('key'), plain_of(command), outcome == 'repeated')
 
 
 @dataclass

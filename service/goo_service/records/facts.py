@@ -9,11 +9,11 @@ from collections.abc import Iterator
 from dataclasses import dataclass
 from typing import Any
 
-from goo_service.common.rules import LOT
-from goo_service.common.rules import PLACES
-from goo_service.common.rules import PLANT
-from goo_service.common.rules import Registry
 from goo_service.records.writer import COUNTERS
+from goo_service.rules.certificates import PLACES
+from goo_service.rules.lots import LOT
+from goo_service.rules.lots import PLANT
+from goo_service.rules.registry import Registry
 
 Key = tuple[Any, ...]
 SUMS = ('last_day', 'carry', 'declared', 'less', 'issued', 'corrected')

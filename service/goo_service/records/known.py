@@ -30,7 +30,8 @@ def tag_of(name: str, database: sqlite3.Connection, exchange: Path) -> str:
         written = exchange.stat().st_mtime_ns
     except OSError:
         written = 0
-    of = (FORM, MADE, entry, digest, written, request.headers.get('GOO-Caller'), request.full_path)
+    of = (FORM, MADE, entry, digest, written, request.headers.get('GOO-Accounts'),
+          request.headers.get('GOO-Caller'), request.full_path)
     return f'"{hashlib.sha256(repr(of).encode()).hexdigest()[:32]}"'
 
 

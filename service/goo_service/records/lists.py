@@ -5,13 +5,6 @@ from collections.abc import Mapping
 from dataclasses import dataclass
 from dataclasses import field
 
-from goo_service.common.rules import CANCELLED
-from goo_service.common.rules import EXPIRED
-from goo_service.common.rules import EXPORTED
-from goo_service.common.rules import HELD
-from goo_service.common.rules import PLACES
-from goo_service.common.rules import PLANT
-from goo_service.common.rules import WITHDRAWN
 from goo_service.records.acts import BY_LOT
 from goo_service.records.acts import FIRST
 from goo_service.records.acts import LAST
@@ -30,6 +23,13 @@ from goo_service.records.questions import text_of
 from goo_service.records.questions import threes_in
 from goo_service.records.schema import CANCELLATION
 from goo_service.records.schema import NAMES
+from goo_service.rules.certificates import CANCELLED
+from goo_service.rules.certificates import EXPIRED
+from goo_service.rules.certificates import EXPORTED
+from goo_service.rules.certificates import HELD
+from goo_service.rules.certificates import PLACES
+from goo_service.rules.certificates import WITHDRAWN
+from goo_service.rules.lots import PLANT
 
 SUMS = ', '.join(f'''(SELECT coalesce(sum(last - first + 1), 0) FROM run
     WHERE run.account = account.number AND run.kind = {kind}) AS {word}'''

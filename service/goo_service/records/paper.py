@@ -11,8 +11,7 @@ from dataclasses import dataclass
 from dataclasses import field
 from urllib.parse import urlencode
 
-import segno
-
+from goo_service.common import qr
 from goo_service.records.body import Body
 from goo_service.records.code_lists import CodeLists
 from goo_service.records.letters import special
@@ -239,5 +238,4 @@ def qr_of(address: str) -> list[str]:
     to be read from paper."""
     if len(address) > LONGEST_ADDRESS:
         return []
-    made = segno.make_qr(address, error='m')
-    return [''.join(map(str, row)) for row in made.matrix]
+    return qr.rows_of(address)

@@ -50,11 +50,6 @@ FORMATS_OF = {'documents': ('pdf', 'json')}
 """Formats of a route that is no list."""
 
 
-def page_parameter(route: str) -> str:
-    """The parameter that takes the `next` of a page of this list."""
-    return next(name for name in ('before', 'after', 'offset') if name in PARAMETERS[route])
-
-
 class Query(Protocol):
     """What Flask gives of a query: each name with its values in their order."""
 

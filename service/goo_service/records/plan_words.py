@@ -17,7 +17,6 @@ TRANSFER, CANCEL = 'transfer', 'cancel'
 COMMANDS = (TRANSFER, CANCEL)
 OWN = {TRANSFER: ('account', 'holder'), CANCEL: ('beneficiary', 'use_first', 'use_last')}
 """The columns that a table of each command has to have."""
-BOTH = ('quantity', 'ranges', *FIELDS, 'reference')
 """Those that any table may have: one of the first two it has to."""
 NAMES = {
     'account': ('konto', 'to account', 'taker'), 'holder': ('inhaber', 'kürzel', 'code'),

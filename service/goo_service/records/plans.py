@@ -19,10 +19,10 @@ from dataclasses import dataclass
 from dataclasses import field
 from typing import Any
 
-from goo_service.common.rules import HELD
 from goo_service.records.certificates import ACTS
 from goo_service.records.certificates import RUNS
 from goo_service.records.certificates import TODAY
+from goo_service.records.parties import TooMany
 from goo_service.records.plan import Fault
 from goo_service.records.plan import Plan
 from goo_service.records.plan import Run
@@ -40,7 +40,7 @@ from goo_service.records.plan_words import TRANSFER
 from goo_service.records.plan_words import Line
 from goo_service.records.plan_words import column_of
 from goo_service.records.plan_words import read_line
-from goo_service.records.parties import TooMany
+from goo_service.records.questions import ALL
 from goo_service.records.questions import BadQuestion
 from goo_service.records.questions import Busy
 from goo_service.records.questions import Given
@@ -49,6 +49,7 @@ from goo_service.records.questions import Row
 from goo_service.records.questions import Viewer
 from goo_service.records.questions import number_of
 from goo_service.records.questions import rows_of
+from goo_service.rules.certificates import HELD
 
 LINES, BYTES = 4000, 1_000_000
 """Requests of one table, and their bytes: a bundle takes a few more (log/bundles.py)."""
@@ -228,11 +229,12 @@ def told(fault: Fault) -> Row:
 def sent(database: sqlite3.Connection, viewer: Viewer, digest: str) -> list[Row]:
     """What came of a table that was sent: its rows, each with the numbers of its cancellations."""
     begin = prefix_of(digest)
-    whose, values = ('TRUE', ()) if viewer.sees_all else ('act.caller = ?', (viewer.caller,))
+    whose, values = ALL if viewer.sees_all else ('act.caller = ?', (viewer.caller,))
+    seen, more = viewer.of_acts()
     acts = rows_of(database, f'''
         SELECT act.key, act.number, act.kind, act.entry, act.day FROM act
         WHERE act.key >= ? AND act.key < ? AND act.outcome = 'accepted' AND {whose}
-        ORDER BY act.id''', (begin, f'{begin[:-1]}/', *values))
+        AND ({seen}) ORDER BY act.id''', (begin, f'{begin[:-1]}/', *values, *more))
     rows: dict[int, Row] = {}
     for act in acts:
         number = act['key'].removeprefix(begin).partition('.')[0]

@@ -12,9 +12,9 @@ from collections.abc import Sequence
 from dataclasses import dataclass
 from typing import Any
 
-from goo_service.common.rules import ISSUER
 from goo_service.records.book import KINDS
 from goo_service.records.schema import folded
+from goo_service.rules.commands import ISSUER
 
 Row = dict[str, Any]
 Given = Mapping[str, str]
@@ -51,6 +51,10 @@ class TooFew(Exception):
     """Fewer certificates than were asked for. The text says how many there are."""
 
 
+class NotShown(Exception):
+    """A user who may read only some accounts asks for what is not kept by account."""
+
+
 class Busy(Exception):
     """As many files as may be are being written, or tables looked at. The text says it."""
 
@@ -60,28 +64,49 @@ class Viewer:
     """Who looks, as the front door names him: a holder's code, or ISSUER."""
 
     caller: str
+    only: frozenset[int] | None = None
+    """Where he may read only these accounts of the holder."""
 
     @property
     def sees_all(self) -> bool:
-        return self.caller == ISSUER
+        return self.caller == ISSUER and self.only is None
+
+    @property
+    def own(self) -> Condition:
+        """The numbers of the holder's accounts that he may see, as a query."""
+        query = 'SELECT number FROM account WHERE holder = ?'
+        if self.only is not None:
+            query = f'{query} AND number IN ({", ".join(map(str, sorted(self.only)))})'
+        return query, (self.caller,)
 
     def accounts(self, database: sqlite3.Connection) -> set[int] | None:
         """The accounts that he may see; None: all."""
         if self.sees_all:
             return None
-        found = database.execute('SELECT number FROM account WHERE holder = ?', (self.caller,))
-        return {number for number, in found}
+        return {number for number, in database.execute(*self.own)}
 
     def of_accounts(self, column: str) -> Condition:
         """The account in this column is one that he may see."""
         if self.sees_all:
             return ALL
-        return f'{column} IN (SELECT number FROM account WHERE holder = ?)', (self.caller,)
+        query, values = self.own
+        return f'{column} IN ({query})', values
+
+    def may_all_of_holder(self) -> None:
+        """Raises NotShown where he may not read all accounts of his holder."""
+        if self.only is not None:
+            raise NotShown('this is not kept by account, and this user may read only some')
 
     def of_acts(self) -> Condition:
-        """The act is his own, or touched one of his accounts."""
+        """The act is of his holder, or touched one of his accounts. Where he may read only some
+        accounts, it touched one of these, or was to take something from one."""
         if self.sees_all:
             return ALL
+        if self.only is not None:
+            query, values = self.own
+            return (f'(act.caller = ? AND act.giver IN ({query}) OR EXISTS (SELECT 1 FROM touched '
+                    f'WHERE touched.account IN ({query}) AND touched.act = act.id))',
+                    (self.caller, *values, *values))
         return ('EXISTS (SELECT 1 FROM seen WHERE viewer = ? AND seen.act = act.id)',
                 (self.caller,))
 

@@ -1,13 +1,16 @@
 """A registry in memory that tells what each command changed, for the book of acts."""
 import bisect
+import zlib
+from collections.abc import Iterator
+from collections.abc import MutableMapping
 from dataclasses import dataclass
 from typing import Any
 
-from goo_service.common.rules import Certificates
-from goo_service.common.rules import HELD
-from goo_service.common.rules import Lot
-from goo_service.common.rules import Place
-from goo_service.common.rules import Registry
+from goo_service.rules.certificates import Certificates
+from goo_service.rules.certificates import HELD
+from goo_service.rules.certificates import Place
+from goo_service.rules.lots import Lot
+from goo_service.rules.registry import Registry
 
 Run = tuple[int, Lot, Place]
 """Its last number, its lot and its place."""
@@ -91,12 +94,35 @@ class Watched(Certificates):
         self.counts[place] += last - first + 1
 
 
+class Packed(MutableMapping[tuple[int, int], str]):
+    """Texts that are compressed: notices, of which few are asked for again."""
+
+    def __init__(self) -> None:
+        self.packed: dict[tuple[int, int], bytes] = {}
+
+    def __setitem__(self, key: tuple[int, int], text: str) -> None:
+        self.packed[key] = zlib.compress(text.encode(), 1)
+
+    def __getitem__(self, key: tuple[int, int]) -> str:
+        return zlib.decompress(self.packed[key]).decode()
+
+    def __delitem__(self, key: tuple[int, int]) -> None:
+        del self.packed[key]
+
+    def __iter__(self) -> Iterator[tuple[int, int]]:
+        return iter(self.packed)
+
+    def __len__(self) -> int:
+        return len(self.packed)
+
+
 class WatchedRegistry(Registry):
     """The rules over certificates that keep their changes."""
 
     def __init__(self, code: int, begun: str, next_serial: int) -> None:
         super().__init__(code, begun, next_serial)
         self.certificates: Watched = Watched()
+        self.taken = Packed()
 
     def restore(self, first: int, last: int, lot: Lot, place: Place) -> None:
         """Where a run is that is known already. What is held waits for its deadline."""

@@ -10,10 +10,6 @@ from collections.abc import Iterator
 from pathlib import Path
 from typing import Any
 
-from goo_service.common.rules import LOT
-from goo_service.common.rules import Lot
-from goo_service.common.rules import PLANT
-from goo_service.common.rules import Place
 from goo_service.log import entries
 from goo_service.records.beginning import Place as Beginning
 from goo_service.records.beginning import last_number
@@ -23,6 +19,10 @@ from goo_service.records.schema import FORM
 from goo_service.records.schema import connect
 from goo_service.records.writer import COUNTERS
 from goo_service.records.writer import SAFE
+from goo_service.rules.certificates import Place
+from goo_service.rules.lots import LOT
+from goo_service.rules.lots import Lot
+from goo_service.rules.lots import PLANT
 
 
 PATIENCE = 30

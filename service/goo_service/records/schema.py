@@ -2,11 +2,11 @@
 import sqlite3
 from pathlib import Path
 
-from goo_service.common.rules import LOT
-from goo_service.common.rules import PLANT
 from goo_service.records.folding import fold
+from goo_service.rules.lots import LOT
+from goo_service.rules.lots import PLANT
 
-FORM = 7
+FORM = 8
 """Of these tables, and of what entries leave in them: it rises with each change of the tables, of
 the rules or of the book. A book of another form is made anew, and nothing is read from it until
 then."""
@@ -25,10 +25,10 @@ CREATE TABLE meta (
     withdrawal INTEGER, notice INTEGER) STRICT;
 CREATE TABLE act (
     id INTEGER PRIMARY KEY, entry INTEGER NOT NULL, line INTEGER NOT NULL, rows INTEGER NOT NULL,
-    lines TEXT, time TEXT, user TEXT, role TEXT, caller TEXT NOT NULL, day TEXT NOT NULL,
-    kind TEXT NOT NULL, outcome TEXT NOT NULL, refusal TEXT, key TEXT, holder TEXT, giver INTEGER,
-    taker INTEGER, device TEXT, peer INTEGER, number INTEGER, wh INTEGER, note TEXT,
-    bundle INTEGER) STRICT;
+    lines TEXT, time TEXT, user TEXT, role TEXT, way TEXT, confirmed TEXT, caller TEXT NOT NULL,
+    day TEXT NOT NULL, kind TEXT NOT NULL, outcome TEXT NOT NULL, refusal TEXT, key TEXT,
+    holder TEXT, giver INTEGER, taker INTEGER, device TEXT, peer INTEGER,
+    number INTEGER, wh INTEGER, note TEXT, bundle INTEGER) STRICT;
 CREATE INDEX act_by_key ON act (key);
 CREATE TABLE seen (viewer TEXT, act INTEGER, PRIMARY KEY (viewer, act)) STRICT, WITHOUT ROWID;
 CREATE TABLE touched (account INTEGER, act INTEGER, PRIMARY KEY (account, act))

@@ -14,8 +14,8 @@ from dataclasses import dataclass
 from dataclasses import field
 
 from goo_service.common import tables
-from goo_service.common.rules import ISSUER
-from goo_service.common.rules import REFUSALS
+from goo_service.rules.commands import ISSUER
+from goo_service.rules.refusals import REFUSALS
 
 OWN_ACTS = 1_000
 """Refused rows of one table that are acts of their own."""

@@ -108,6 +108,20 @@ class PeerWork:
     password_file: str | None = None
 
 
+@dataclass(frozen=True)
+class PeopleWork:
+    """Whether goo-people signs users in, and whom it begins with."""
+    do: str
+    officer: str | None = None
+    language: str = 'en'
+    programs_until: str | None = None
+
+
+def people_work(given: argparse.Namespace) -> PeopleWork:
+    return PeopleWork(given.do, getattr(given, 'officer', None), getattr(given, 'language', 'en'),
+                      getattr(given, 'programs_until', None))
+
+
 def user_work(given: argparse.Namespace) -> UserWork:
     return UserWork(given.do, given.name, getattr(given, 'caller', ''),
                     tuple(getattr(given, 'role', ())), given.password_file)

@@ -7,6 +7,7 @@ usage: goo-setup [--code C] [--name HOST] [--date DAY] [--next-serial N]
                  [--alone | --hosts ADDRESS,ADDRESS,ADDRESS [--balancer ADDRESS] | --join FILE]
        goo-setup user add NAME CALLER [ROLE] [--password-file FILE]
                  | remove NAME | password NAME [--password-file FILE]
+       goo-setup people on [--officer MAIL] [--language en|de] [--programs-until DAY] | off
        goo-setup peer add CODE URL USER PUBLIC_KEY [--password-file FILE] | remove CODE
        goo-setup status | doctor | renew | upgraded
 
@@ -22,6 +23,10 @@ units and programs go aside, to /var/backups/goo-by-hand.
 this one's first. It writes a file for each of the others, with which that host joins by --join.
 --balancer is the address that may ask each host whether it is well. A registry that runs alone
 becomes the first of three in the same way.
+
+`people on` has goo-people sign users in: by a page with a second factor, and by tokens. The users
+of today's files are taken over; --officer invites an officer by a link that is printed. Passwords
+of programs are taken until DAY, in 30 days unless told. `people off` goes back to the files.
 
 `status` tells what runs, which version, at which entry, and the last copy. `doctor` tells what is
 wrong, what to do about it, and the row of /usr/share/doc/goo/WRONG.md that says more. `renew`
@@ -41,6 +46,7 @@ from goo_service.setup import by_hand
 from goo_service.setup import choices
 from goo_service.setup import cluster
 from goo_service.setup import people
+from goo_service.setup import people_way
 from goo_service.setup import registry
 from goo_service.setup import running
 from goo_service.setup.choices import Beginning
@@ -53,7 +59,7 @@ from goo_service.setup.questions import answer_or_default
 from goo_service.setup.status import status
 from goo_service.setup.three import are_hosts
 from goo_service.setup.upgrade import renew
-from goo_service.setup.upgrade import upgraded
+from goo_service.setup.upgrade import upgrade
 
 HOSTS_ASKED = ('the addresses of three hosts with commas between, this one first; '
                'empty: this host alone')
@@ -71,6 +77,8 @@ OPTIONS = {
     'directory': ('WORD', 'whether holders see whose accounts there are: shown, or hidden'),
     'balancer': ('ADDRESS', 'of three hosts: who may ask whether one is well'),
 }
+WORKS = {'status': status, 'doctor': doctor, 'renew': renew, 'upgraded': upgrade}
+"""Commands without words. The package's scripts give the last one."""
 USER_WORDS = {'add': ('name', 'caller'), 'remove': ('name',), 'password': ('name',)}
 PEER_WORDS = {'add': ('code', 'url', 'user', 'public_key'), 'remove': ('code',)}
 
@@ -141,6 +149,18 @@ def add_kind(kinds: 'argparse._SubParsersAction[argparse.ArgumentParser]', kind:
         one.set_defaults(work=work)
 
 
+def add_people(kinds: 'argparse._SubParsersAction[argparse.ArgumentParser]') -> None:
+    """The commands of goo-people."""
+    commands = kinds.add_parser('people').add_subparsers(required=True, dest='do')
+    on = commands.add_parser('on')
+    on.add_argument('--officer', metavar='MAIL', help='invites an officer of the issuing body')
+    on.add_argument('--language', choices=('en', 'de'), default='en', help="of the officer's mails")
+    on.add_argument('--programs-until', metavar='DAY',
+                    help='until when passwords of programs are taken; 30 days unless told')
+    for one in (on, commands.add_parser('off')):
+        one.set_defaults(work=lambda given: people_way.people(choices.people_work(given)))
+
+
 def parser() -> argparse.ArgumentParser:
     words = argparse.ArgumentParser(prog='goo-setup', description=__doc__,
                                     formatter_class=argparse.RawDescriptionHelpFormatter)
@@ -158,8 +178,9 @@ def parser() -> argparse.ArgumentParser:
     kinds = words.add_subparsers()
     add_kind(kinds, 'user', USER_WORDS, lambda given: people.user(choices.user_work(given)))
     add_kind(kinds, 'peer', PEER_WORDS, lambda given: people.peer(choices.peer_work(given)))
-    for work in (status, doctor, renew, upgraded):
-        kinds.add_parser(work.__name__).set_defaults(work=lambda _, work=work: work())
+    add_people(kinds)
+    for word, work in WORKS.items():
+        kinds.add_parser(word).set_defaults(work=lambda _, work=work: work())
     return words
 
 

@@ -29,6 +29,11 @@ EVERYWHERE = ('goo-registry.socket', 'goo-door.socket', 'goo.service', 'goo-repl
 """What runs on each host, in the order in which it is started."""
 NEWER = ('goo-records-verify.socket', 'goo-units.timer', 'goo-doctor.timer')
 """What a registry of an earlier version has not: the new version starts it."""
+OF_PEOPLE = ('goo-people-who.socket', 'goo-people-web.socket', 'goo-people-gate.socket',
+             'goo-people-post.service')
+"""What runs where users sign in by goo-people."""
+WAY = ETC / 'people.conf'
+"""Says for nginx who answers who is there."""
 ON_ONE, LEADER = 'goo-advance.timer', 'h1'
 """What runs on one of three hosts alone, and on which."""
 LED = ('goo-door.socket', 'goo-replica.service', 'goo.service')
@@ -222,4 +227,10 @@ def leads() -> bool:
 def units() -> tuple[str, ...]:
     """What runs on this host."""
     etcd = ('goo-etcd.service',) if words_of_log() else ()
-    return (*etcd, *EVERYWHERE, *([ON_ONE] if leads() else []))
+    people = OF_PEOPLE if has_people() else ()
+    return (*etcd, *EVERYWHERE, *people, *([ON_ONE] if leads() else []))
+
+
+def has_people() -> bool:
+    """Whether goo-people signs users in here, and not nginx by the files."""
+    return f'include {SHARE}/nginx/people.conf;' in text_of(WAY)

@@ -21,6 +21,7 @@ from goo_service.setup.common import ON_ONE
 from goo_service.setup.common import REGISTRY
 from goo_service.setup.common import Refused
 from goo_service.setup.common import code_of_registry
+from goo_service.setup.common import has_people
 from goo_service.setup.common import is_active
 from goo_service.setup.common import leads
 from goo_service.setup.common import meta_of
@@ -43,6 +44,8 @@ BEHIND = 1000
 BEGINNING = (f'{ETC}/records.conf has to name the copy that was made when the log was begun: '
              'RECORDS.md, "Running it"')
 ROOM = 1 << 30
+PATIENCE, LINES = 120, 5
+"""Seconds that a check of the file of people may take; lines of it that are told."""
 SINCE = '-5min'
 """Where a registry does not start, it is tried again each few seconds: its reason is in the newest
 lines."""
@@ -65,6 +68,8 @@ class Row(Enum):
     EXCHANGE = 'The exchange waits'
     NGINX = 'nginx does not answer'
     USERS = 'A list of users has a fault'
+    PEOPLE = 'The file of people is damaged'
+    MAIL = 'Mails do not go out'
     KEY = 'A key is missing or open'
 
 
@@ -297,6 +302,39 @@ def of_keys() -> Iterator[Finding]:
 
 
 def of_users() -> Iterator[Finding]:
+    """The file of people, or the lists where there is none."""
+    yield from of_people() if has_people() else of_lists()
+
+
+def of_people() -> Iterator[Finding]:
+    """What the file's own user finds wrong with it."""
+    try:
+        done = subprocess.run(['/usr/bin/goo-people', 'check'], capture_output=True, text=True,
+                              check=False, timeout=PATIENCE)
+    except subprocess.TimeoutExpired:
+        yield Finding('goo-people check takes too long', Row.PEOPLE, 'goo-people check')
+        return
+    if done.returncode:
+        for line in (done.stdout + done.stderr).splitlines()[:LINES]:
+            yield Finding(line, Row.PEOPLE, 'goo-people restore COPY/people.db')
+    else:
+        yield from of_mails()
+
+
+def of_mails() -> Iterator[Finding]:
+    """Mails that were given up, or that have waited too long."""
+    try:
+        done = subprocess.run(['/usr/bin/goo-people-post', '--check'], capture_output=True,
+                              text=True, check=False, timeout=PATIENCE)
+    except subprocess.TimeoutExpired:
+        yield Finding('goo-people-post --check takes too long', Row.MAIL,
+                      'goo-people-post --check')
+        return
+    for line in (done.stdout + done.stderr).splitlines()[:LINES] if done.returncode else ():
+        yield Finding(line, Row.MAIL, 'journalctl -u goo-people-post -n 20')
+
+
+def of_lists() -> Iterator[Finding]:
     with tempfile.TemporaryDirectory() as place:
         words = ['goo-callers', '--map', f'{place}/map']
         done = subprocess.run(words, capture_output=True, text=True, check=False)

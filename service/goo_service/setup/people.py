@@ -7,6 +7,7 @@ from goo_service.setup.choices import PeerWork
 from goo_service.setup.choices import UserWork
 from goo_service.setup.common import ETC
 from goo_service.setup.common import Refused
+from goo_service.setup.common import has_people
 from goo_service.setup.common import is_active
 from goo_service.setup.common import run
 from goo_service.setup.common import words_of_log
@@ -62,6 +63,8 @@ def change_lists(lines: list[str], change: Callable[[], object]) -> None:
 
 
 def user(work: UserWork) -> int:
+    if has_people():
+        raise Refused('goo-people signs users in here: goo-people user, or the page')
     known = [line for line in lines_of_callers() if is_of(line, work.name)]
     if work.do == 'add':
         if known:
@@ -91,6 +94,13 @@ def section_of(work: PeerWork, secret: object) -> str:
             f'key           = {work.public_key}\n')
 
 
+def words_for_peer(code: str) -> str:
+    """The command that makes the user of a peer's agent."""
+    if has_people():
+        return f'goo-people user add registry{code} {code} peer'
+    return f'goo-setup user add registry{code} peer {code}'
+
+
 def peer(work: PeerWork) -> int:
     """A section of exchange.conf, and the password that the peer gave us."""
     if not CODE.fullmatch(work.code):
@@ -113,7 +123,7 @@ def peer(work: PeerWork) -> int:
     write(EXCHANGE_CONF, ''.join(parts))
     print(f'registry {code}: {work.do} done')
     if work.do == 'add':
-        print(f'its agent needs a user here: goo-setup user add registry{code} peer {code}\n'
+        print(f'its agent needs a user here: {words_for_peer(code)}\n'
               'the registry has to know it: the page, Exchange\n'
               'then try it: systemctl start goo-exchange; and for good: '
               'systemctl enable --now goo-exchange.timer')

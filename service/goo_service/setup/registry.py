@@ -94,13 +94,13 @@ def place_body(given: Beginning) -> None:
     path = ETC / 'body.conf'
     is_new = not path.exists()
     if is_new:
-        name = asked_or_given(given.body_name, BODY_ASKED, is_body_name)
-        address = asked_or_given(given.body_address, BODY_ADDRESS_ASKED, is_body_address)
+        name = read_answer(given.body_name, BODY_ASKED, is_body_name)
+        address = read_answer(given.body_address, BODY_ADDRESS_ASKED, is_body_address)
         write(path, Body(name, address).text())
     report(path, is_new)
 
 
-def asked_or_given(given: str | None, what: str, is_usable: Callable[[str], object]) -> str:
+def read_answer(given: str | None, what: str, is_usable: Callable[[str], object]) -> str:
     """What was given as an option, or is typed; empty where nobody answers."""
     if given is None:
         return answer_or_default(what, '', is_usable)

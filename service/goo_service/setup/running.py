@@ -21,6 +21,7 @@ from goo_service.setup.common import run
 from goo_service.setup.common import units
 from goo_service.setup.common import words_of_log
 from goo_service.setup.common import write
+from goo_service.setup.people_way import place_way
 from goo_service.setup.registry import RECORDS
 from goo_service.setup.registry import place_beginning
 
@@ -39,6 +40,7 @@ def with_connections(conf: str) -> str:
 def place_nginx() -> bool:
     """Whether something is new in nginx's configuration."""
     done = [link(SHARE / name, target) for name, target in LINKS.items()]
+    done.append(place_way())
     done.append(link(NGINX / 'sites-available/goo.conf', NGINX / 'sites-enabled/goo.conf'))
     main = NGINX / 'nginx.conf'
     text = main.read_text(encoding='utf-8')

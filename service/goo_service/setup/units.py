@@ -67,13 +67,13 @@ def faults(units: list[Unit], before: dict[str, int]) -> list[str]:
     return [line for line in lines if line]
 
 
-def shown() -> str:
+def read_units() -> str:
     """What systemd says of the units that it has loaded."""
     words = ['systemctl', 'show', f'--property={",".join(PROPERTIES)}', '--', *PATTERNS]
     return subprocess.run(words, capture_output=True, text=True, check=True, timeout=60).stdout
 
 
-def noted(path: pathlib.Path | None) -> dict[str, int]:
+def read_restarts(path: pathlib.Path | None) -> dict[str, int]:
     """How often each unit was started again up to the last look; nothing where nobody has looked.
     """
     try:
@@ -90,11 +90,11 @@ def main() -> int:
                         help='keeps how often each unit was started again')
     given = parser.parse_args()
     try:
-        units = units_in(shown())
+        units = units_in(read_units())
     except (OSError, subprocess.SubprocessError) as fault:
         print(f'units: systemd does not say what runs: {fault}', file=sys.stderr)
         return 1
-    found = faults(units, noted(given.noted))
+    found = faults(units, read_restarts(given.noted))
     if given.noted:
         counts = {unit.name: unit.restarts for unit in units}
         given.noted.write_text(json.dumps(counts), encoding='utf-8')

@@ -33,6 +33,7 @@ from goo_service.setup.common import units
 from goo_service.setup.common import words_of_log
 from goo_service.setup.health import health
 from goo_service.setup.health import wait_for_registry
+from goo_service.setup.people_way import place_way
 
 PROGRAM, BEFORE, REFUSED = map(pathlib.Path, ('/usr/bin/goo', '/usr/lib/goo/goo.before',
                                               '/usr/lib/goo/goo.refused'))
@@ -44,7 +45,8 @@ OPENS_AGAIN = pathlib.Path('/run/goo/begins-again')
 """While this is there, a stop of the registry does not open the file: the next start does."""
 LOGS = pathlib.Path('/var/log/goo')
 OTHERS = ('goo-records.service', 'goo-records-web.service', 'goo-records-verify.service',
-          'goo-ship.service')
+          'goo-ship.service', 'goo-people-who.service', 'goo-people-web.service',
+          'goo-people-gate.service', 'goo-people-post.service')
 PATIENCE, STARTS = 900, 3
 """Seconds for the registry to read its file, and starts after which it is no use waiting."""
 MADE = '''
@@ -56,7 +58,7 @@ sqlite3 -init /dev/null -batch "$folder/made.db" 'SELECT version FROM meta'
 """Prints the version of the tables that the program makes, by a registry that goes at once."""
 
 
-def upgraded() -> int:
+def upgrade() -> int:
     """After a new version was installed. Of three hosts the others may not have it yet."""
     if not DATABASE.exists():
         return 0
@@ -138,6 +140,7 @@ def begin_others() -> None:
     for unit in NEWER if is_active('goo.service') else ():      # one that is masked stays so
         if output_of('systemctl', 'is-enabled', unit) == 'disabled':
             run('systemctl', 'enable', '--now', unit)
+    place_way()
     if is_active('nginx'):
         run('nginx', '-t', '-q')
         run('systemctl', 'reload', 'nginx')

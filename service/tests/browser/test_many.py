@@ -1,6 +1,6 @@
 """Whoever has ten thousand lots waits for a few requests and a hundred rows, by no clock.
 
-The log of that registry was written here, and goo_service.common.rules gave its answers: the
+The log of that registry was written here, and goo_service.rules gave its answers: the
 program, which would take minutes, is empty.
 """
 import json
@@ -11,9 +11,10 @@ from collections.abc import Iterator
 import pytest
 from browser.chromium import Browser
 from browser.conftest import Visit
-from goo_service.common import rules
 from goo_service.log import entries
 from goo_service.log.archive import Archive
+from goo_service.rules.registry import Registry
+from goo_service.rules.replies import reply
 from house import CODE
 from house import House
 from house import ISSUER
@@ -36,11 +37,11 @@ class Written:
     """An archive as a replica has it, of entries that are made here."""
 
     def __init__(self, archive: Archive, day: str) -> None:
-        self.archive, self.model = archive, rules.Registry(CODE, day, 1)
+        self.archive, self.model = archive, Registry(CODE, day, 1)
         self.before, self.chain, self.count = '0' * 64, entries.NO_CHAIN, 0
 
     def request(self, **command: object) -> None:
-        answer = {'outcome': 'accepted', 'reply': rules.reply(*self.model.apply(ISSUER, command))}
+        answer = {'outcome': 'accepted', 'reply': reply(*self.model.apply(ISSUER, command))}
         body = json.dumps({**command, 'key': f'k{self.count}'})
         self.write('/v1/requests', body, json.dumps(answer))
 
@@ -54,8 +55,8 @@ class Written:
             n=self.count, prev=self.before, time='2025-03-01T09:00:00.000000Z', host='h',
             user='office', address='', role='full', caller=ISSUER, method='POST', route=route,
             version='trial', id=f'{self.count:x}', body=body.encode())
-        line = entries.written(entry, KEY)
-        outcome = entries.decided(route, 200, answer.encode(), self.chain)
+        line = entries.entry_line(entry, KEY)
+        outcome = entries.outcome_after(route, 200, answer.encode(), self.chain)
         self.archive.add(line, entry, outcome)
         self.before, self.chain = entries.hash_of(line), outcome.chain
 

@@ -50,6 +50,7 @@ echo 'server_name localhost;' > /etc/goo/host.conf
 htpasswd -cbB -C 8 /etc/goo/users office {password}
 chown root:www-data /etc/goo/users
 cp share/goo/etc/nginx/decoy share/goo/etc/nginx/callers /etc/goo/
+cp share/goo/etc/nginx/people-file.conf /etc/goo/people.conf
 echo 'office ISSUER' > /etc/goo/callers
 chmod 640 /etc/goo/users /etc/goo/callers
 sed 's/^code = .*/code = 7/' share/goo/etc/exchange.conf > /etc/goo/exchange.conf

@@ -44,6 +44,25 @@ def blocks(heading: str) -> list[str]:
     raise LookupError(f'no page of docs/ has a section "{heading}"')
 
 
+def script(heading: str, at: int, **words: str) -> str:
+    """A block of commands of the handbook, with values in place of some of its words."""
+    text = blocks(heading)[at]
+    for name, value in words.items():
+        text = re.sub(rf'\b{name}\b', value, text)
+    return text
+
+
+def play(heading: str, *at: int, stdin: str = '', **words: str) -> str:
+    """Carries out the commands of a section as they stand, but for N; what they printed."""
+    printed = ''
+    for number in at or range(len(blocks(heading))):
+        text = script(heading, number, **words)
+        done = shell(text, stdin)
+        printed += done.stdout + done.stderr
+        assert done.returncode == 0, f'{text}\n{printed[-700:]}'
+    return printed
+
+
 def comes(is_so: Callable[[], object], seconds: float = 30) -> bool:
     """Whether something becomes so within this time."""
     end = time.monotonic() + seconds

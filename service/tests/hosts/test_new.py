@@ -49,6 +49,8 @@ EXPOSED = {'goo-alarm@trial.service': 24, 'goo-doctor.service': 24, 'goo-backup.
 """Tenths of the exposure that systemd finds at most; all other services have 15 at most."""
 MAILS = Path('/var/lib/mails')
 """What the host has sent to its operator."""
+OFTEN = 3
+"""Starts between two looks from which on goo-units tells of a unit."""
 MAIL = f'#!/bin/sh\necho "$@" >> {MAILS}\ncat >> {MAILS}\n'
 OPTION = re.compile(r'(?<![\w-])--[a-z][a-z-]+')
 ROWS = ('import socket; s = socket.socket(socket.AF_UNIX); s.connect("/run/goo/rows.sock"); '
@@ -257,6 +259,21 @@ def starts_that_fail(unit: str) -> Iterator[None]:
         run('systemctl', 'daemon-reload')
 
 
+def is_told_of_starts(name: str) -> bool:
+    """Whether the operator is told of a unit that does not stay up. The timer's own look may come
+    just before this one, and between two looks too few starts lie then: so there are some."""
+    def is_told() -> bool:
+        return MAILS.exists() and f'{name}.service' in MAILS.read_text()
+
+    for _ in range(4):
+        seen = restarts(name)
+        start('goo-units')
+        if comes(is_told, 5):
+            return True
+        comes(lambda: restarts(name) > seen + OFTEN, 60)
+    return is_told()
+
+
 def test_starts_that_fail_go_on_and_are_told() -> None:
     """More often than systemd's own limit of starts; who waits meanwhile is answered."""
     with starts_that_fail('goo-replica'):
@@ -265,8 +282,7 @@ def test_starts_that_fail_go_on_and_are_told() -> None:
                                     'http://goo/healthz'], stdout=subprocess.DEVNULL)
         assert comes(lambda: restarts('goo-replica') > 12, 200), restarts('goo-replica')
         assert states('goo-door.socket') == ['active']
-        start('goo-units')
-        assert comes(lambda: MAILS.exists() and 'goo-replica.service' in MAILS.read_text()), (
+        assert is_told_of_starts('goo-replica'), (
             journal('goo-units'), journal('goo-alarm@goo-units.service.service'))
     assert is_well() and waiting.wait(200) == 0
     start('goo-units')

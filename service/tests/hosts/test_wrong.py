@@ -23,13 +23,13 @@ from host import OLD
 from host import REGISTRY
 from host import TODAY
 from host import at_door
-from host import blocks
 from host import comes
 from host import install
 from host import is_well
 from host import journal
 from host import outcome_inside
 from host import password
+from host import play
 from host import run
 from host import shell
 from host import shown
@@ -123,19 +123,6 @@ def test_given_again_it_changes_nothing() -> None:
 
 def rows_told() -> list[str]:
     return re.findall(r'(?m)^    WRONG\.md, "(.*)"$', run('goo-setup', 'doctor').stdout)
-
-
-def play(row: str, *at: int, stdin: str = '', **words: str) -> str:
-    """Carries out the commands of a row as they stand, but for N; what they printed."""
-    scripts, printed = blocks(row), ''
-    for number in at or range(len(scripts)):
-        text = scripts[number]
-        for name, value in words.items():
-            text = re.sub(rf'\b{name}\b', value, text)
-        done = shell(text, stdin)
-        printed += done.stdout + done.stderr
-        assert done.returncode == 0, f'{text}\n{printed[-700:]}'
-    return printed
 
 
 def assert_named(row: str) -> None:

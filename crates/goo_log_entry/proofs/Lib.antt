@@ -1,0 +1,5 @@
+mod Plain
+mod Written
+mod Found
+mod ReadBack
+pub mod Differ

@@ -1,0 +1,5 @@
+pub mod Contents
+pub mod Body
+pub mod Text
+pub mod Read
+pub mod Tokens

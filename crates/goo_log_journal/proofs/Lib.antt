@@ -1,0 +1,3 @@
+mod DigestBytes
+mod HashLemmas
+mod Taken

@@ -1,0 +1,3 @@
+pub mod Hashes
+pub mod Place
+pub mod Read

@@ -1,0 +1,3 @@
+pub mod Less
+pub mod Settled
+pub mod JustOpened
