@@ -1,3 +1,5 @@
 pub mod Durable
+pub mod Showing
 pub mod ServerEndings
 pub mod ServesConnections
+pub mod ServesFiles

@@ -1,3 +1,4 @@
 pub mod Files
+pub mod Taken
 pub mod DurableLemmas
 pub mod Finding

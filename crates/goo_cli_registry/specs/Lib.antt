@@ -1,3 +1,5 @@
+pub mod Adoptions
+pub mod Takings
 pub mod Durable
 pub mod Openings
 pub mod Closings

@@ -1,1 +1,2 @@
 pub mod Adopted
+pub mod Steps

@@ -11,7 +11,7 @@ ghost use Rattle.goo_store_adoption.specs.Judged.{HoldSame};
 use crate::beginning::layout_of;
 use crate::judging::{judge, read_meta};
 use crate::observer::AdoptionObserver;
-use crate::room::{is_free, removals};
+use crate::room::{Beside, is_free, removals};
 use goo_store_anew::answers::Answer;
 use goo_store_anew::asking::ask_tables;
 use goo_store_anew::rewriting::write_anew;
@@ -84,6 +84,7 @@ fn keep_tables<S: Alter>(
     alloc: Global,
     conn: &mut Connection<S>,
     layout: Layout,
+    beside: Beside,
 ) -> Result<Kept, OpenFault>
     ensures told { HasCleanDisk (state S.Store conn.new) → IsSettled (state S.Store conn.old)
         → IfOk result (λ kept. AreAnswers (count_of layout) (state S.Store conn.old).now
@@ -102,7 +103,7 @@ fn keep_tables<S: Alter>(
         Err(error) => return Err(fault_of(error, OpenFault::Damaged)),
     };
     judge(alloc, layout, &answers)?;
-    let views = views_of(alloc, &*conn)?;
+    let views = views_of(alloc, &*conn, beside)?;
     Ok(Kept { answers, views })
 }
 
@@ -111,8 +112,12 @@ fn keep_tables<S: Alter>(
 /// # Errors
 ///
 /// `Damaged` where a view, a table of another program or a trigger is in the way; `Memory`.
-fn views_of<S: Alter>(alloc: Global, conn: &Connection<S>) -> Result<String, OpenFault> {
-    if !is_free(conn.schema()) {
+fn views_of<S: Alter>(
+    alloc: Global,
+    conn: &Connection<S>,
+    beside: Beside,
+) -> Result<String, OpenFault> {
+    if !is_free(conn.schema(), beside) {
         return Err(OpenFault::Damaged);
     }
     match removals(alloc, conn.schema()) {
@@ -120,6 +125,23 @@ fn views_of<S: Alter>(alloc: Global, conn: &Connection<S>) -> Result<String, Ope
         Ok(None) => Err(OpenFault::Damaged),
         Err(_) => Err(OpenFault::Memory),
     }
+}
+
+/// Looks whether tables in another form than ours hold a registry that can be written anew. Nothing
+/// is changed.
+///
+/// # Errors
+///
+/// Those of [`adopt`].
+pub fn examine<S: Alter>(alloc: Global, conn: &mut Connection<S>) -> Result<(), OpenFault>
+    ensures rests { HasCleanDisk (state S.Store conn.new) → IsSettled (state S.Store conn.old)
+        → Rests (state S.Store conn.old) (state S.Store conn.new) }
+    ensures outside { conn.old.in_transaction ≡ false → conn.new.in_transaction ≡ false }
+    ensures survives { Survives (state S.Store conn.old) (state S.Store conn.new) (λ _. ⊥) }
+{
+    let layout = find_layout(alloc, conn)?;
+    keep_tables(alloc, conn, layout, Beside::Statistics)?;
+    Ok(())
 }
 
 /// Writes the tables of a registry in another form than ours anew, which is told before. None is
@@ -157,7 +179,7 @@ pub fn adopt<S: Alter, A: AdoptionObserver>(
         return Ok(None);
     }
     let layout = find_layout(alloc, conn)?;
-    let kept = keep_tables(alloc, conn, layout)?;
+    let kept = keep_tables(alloc, conn, layout, Beside::Views)?;
     observer.adopts();
     match write_anew(alloc, conn, kept.views.as_str(), &kept.answers) {
         Ok(()) => Ok(Some(layout)),

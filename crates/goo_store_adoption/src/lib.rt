@@ -7,3 +7,5 @@ mod beginning;
 mod judging;
 pub mod observer;
 mod room;
+mod statistics;
+pub mod taking;

@@ -4,4 +4,8 @@
 pub trait AdoptionObserver {
     /// It begins: the rows keep the rules, and nothing is changed yet.
     fn adopts(&mut self);
+
+    /// The tables that `ANALYZE` made are about to be taken away: the rows keep the rules, and nothing
+    /// is changed yet.
+    fn drops_statistics(&mut self);
 }

@@ -30,12 +30,32 @@ fn is_known(name: &[u8]) -> bool {
         .any(|known| known.as_bytes().eq_ignore_ascii_case(name))
 }
 
+/// Whether `ANALYZE` makes a table of this name.
+fn is_statistics(name: &[u8]) -> bool {
+    name == b"sqlite_stat1".as_slice() || name == b"sqlite_stat4".as_slice()
+}
+
+/// What may be beside the tables of a registry.
+#[derive(Clone, Copy)]
+pub enum Beside {
+    Views,
+    /// Views, and the tables that `ANALYZE` makes.
+    Statistics,
+}
+
+/// Whether a table of this name may be there.
+fn is_let(name: &[u8], beside: Beside) -> bool {
+    is_known(name) || (matches!(beside, Beside::Statistics) && is_statistics(name))
+}
+
 /// Whether tables of ours can take the place of all tables: none is of another program or of SQLite's
 /// own, and none is kept as it is for a trigger.
-pub fn is_free(schema: &Schema) -> bool {
+pub fn is_free(schema: &Schema, beside: Beside) -> bool {
     let tables = schema.tables.as_slice();
     let views = schema.views.as_slice();
-    tables.iter().all(|table| is_known(table.name.as_slice()))
+    tables
+        .iter()
+        .all(|table| is_let(table.name.as_slice(), beside))
         && views.iter().all(|view| view.foreign.is_none() && !view.binds && !view.is_bound)
 }
 

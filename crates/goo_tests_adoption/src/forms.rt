@@ -31,6 +31,8 @@ impl AdoptionObserver for Told {
     fn adopts(&mut self) {
         self.times = self.times.saturating_add(1);
     }
+
+    fn drops_statistics(&mut self) {}
 }
 
 fn holds(rt: &impl Abort, is_so: bool, what: &str) {
