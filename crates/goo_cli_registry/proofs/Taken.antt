@@ -129,7 +129,7 @@ module _ {D : Type 0} {g : Ghosts D} (files : Files D) (stays : SeenMayStay g) (
         let late = no.why.clean_before no.clean in
         let clean : HasCleanDisk (file_state conn) = omega (arith, it.clean, late) in
         inl (no.fault, no.tells, inl (record { before = conn; over = over clean; taken = it.taken; took = it.took; after = no.after; clean = no.clean; lacking = no.lacking; why = no.why }))
-    tells_by rest (inr it) = inl (it.fault, it.tells, inr (record { before = conn; over = over it.clean; foreign = it.foreign }))
+    tells_by rest (inr it) = inl (it.fault, it.tells, inr (record { before = conn; over = over it.clean; foreign = it.foreign; word = it.word }))
 
     pub never_by : (rest : Leftover D g) → IsRefusedBy conn told rest ⊎ IsUntaken conn told rest → (db : Trees) → HoldsDatabase (image_of g files) db → (s t : State) → OpensAsEither db s t → IsFault told
     never_by rest (inl it) db holds s t either =

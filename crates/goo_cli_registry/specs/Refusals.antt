@@ -18,6 +18,7 @@ use Rattle.goo_cli_ending.specs.declared.ending.NotDone.TheVariants as denial
 use Rattle.goo_cli_ending.specs.declared.ending.Failure.{Failure}
 use Rattle.goo_cli_ending.specs.declared.ending.Failure.TheVariants as failure
 use Rattle.goo_store_adoption.specs.Judged.{IsOurs}
+use Rattle.goo_store_adoption.specs.Refused.{TellsFormOf}
 use Rattle.goo_cli_registry.specs.Adoptions.{IsOver, Took}
 use Rattle.goo_cli_registry.specs.Closings.{LeavesRegistry}
 use Rattle.goo_cli_registry.specs.Openings.{failure_of_opening, IsBlamed}
@@ -42,6 +43,7 @@ module _ {D : Type 0} (g : Ghosts D) (files : Files D) where
     pub before : Held (FileStore D g)
     pub over : IsOver files before
     pub foreign : IsOurs (file_state before).now.schema → ⊥
+    pub word : TellsFormOf (file_state before).now fault
 
   -- the database of these files has a table, an index or a view
   abbrev pub IsTaken : Type 0

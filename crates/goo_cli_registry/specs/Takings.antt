@@ -13,6 +13,7 @@ use Rattle.sqlite.specs.declared.file.Leftover.TheVariants as rest
 use Rattle.goo_store.specs.Opened.{IsOpened}
 use Rattle.goo_store.specs.declared.sql_shelf.SqlShelf.{SqlShelf}
 use Rattle.goo_store_adoption.specs.Judged.{IsOurs}
+use Rattle.goo_store_adoption.specs.Refused.{TellsFormOf}
 use Rattle.goo_store_adoption.specs.Taken.{Became}
 use Rattle.goo_store_trees.specs.JustOpened.{IsJustOpened}
 use Rattle.goo_store_open.specs.Foreign.{LacksMeta}
@@ -53,6 +54,7 @@ module _ {D : Type 0} {g : Ghosts D} where
     pub fault : OpenFault
     pub tells : told ≡ failure_of_opening fault
     pub foreign : IsOurs (file_state conn).now.schema → ⊥
+    pub word : TellsFormOf (file_state conn).now fault
     pub clean : HasCleanDisk (file_state conn)
     pub left : LeavesStore rest (λ db. (file_state conn).may_leave db ⊎ Became (file_state conn).now db)
 

@@ -1,2 +1,3 @@
 pub mod Adopted
 pub mod Steps
+pub mod Words

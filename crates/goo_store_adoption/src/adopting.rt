@@ -1,30 +1,33 @@
 //! A database that holds a registry in tables of another form, which become ours.
 
-ghost use Rattle.std.specs.Prelude.{◌≡◌, ◌≤◌, false, None, IfOk, IfSome, OnErr, OnOk, IsTrue, length};
+ghost use Rattle.std.specs.Prelude.{◌≡◌, ◌≤◌, false, None, IfOk, IfErr, IfSome, OnErr, OnOk, IsTrue, length};
 ghost use Rattle.sqlite.specs.Held.{state};
 ghost use Rattle.sqlite.specs.State.{HasCleanDisk, Survives};
 ghost use Rattle.goo_tables_rows.specs.Stands.{Rests, IsSettled};
 ghost use Rattle.goo_store_anew.specs.Answered.{IsSameIn, AreAnswers};
 ghost use Rattle.goo_store_adoption.specs.Judged.{count_of, IsRegistry, IsOurs, HoldsRegistry};
 ghost use Rattle.goo_store_adoption.specs.Judged.{HoldSame};
+ghost use Rattle.goo_store_adoption.specs.Refused.{IsBroken, HasMeta, RowsTell, TellsForm};
 
 use crate::beginning::layout_of;
 use crate::judging::{judge, read_meta};
 use crate::observer::AdoptionObserver;
 use crate::room::{Beside, is_free, removals};
 use goo_store_anew::answers::Answer;
-use goo_store_anew::asking::ask_tables;
+use goo_store_anew::asking::{ask, ask_tables};
 use goo_store_anew::rewriting::write_anew;
 use goo_store_open::fault::{OpenFault, fault_of};
 use goo_store_open::layout::Layout;
 use goo_store_open::our_schema::{has_first_schema, has_our_schema};
-use sqlite::{Alter, Connection, Error, ErrorCode};
+use sqlite::{Alter, Connection, Error, ErrorCode, Row};
 use std::alloc::Global;
 
 /// The word for an error of a statement that writes the rows anew. The database is as it was, so a
 /// statement that it refuses for another cause than memory or the disk tells of a row or a table that
 /// has no place among ours.
-fn word_of_writing(error: Error) -> OpenFault {
+fn word_of_writing(error: Error) -> OpenFault
+    ensures { IsBroken result }
+{
     match error {
         Error::SqliteFailure(ErrorCode::OutOfMemory) => OpenFault::Memory,
         Error::SqliteFailure(
@@ -48,6 +51,19 @@ fn tables_of(layout: Layout) -> usize
     }
 }
 
+/// Of which version tables are whose rows of `meta` are these.
+///
+/// # Errors
+///
+/// `NotARegistry` where they are not one, under the number 1; `Version` by that row; `Damaged` where
+/// a value of it can't be read; `Memory`.
+fn layout_in(alloc: Global, rows: Vec<Row>) -> Result<Layout, OpenFault>
+    ensures { IfErr result (RowsTell rows.items) }
+{
+    let answers = [Answer { rows }];
+    layout_of(read_meta(alloc, &answers)?.version)
+}
+
 /// Of which version the tables are.
 ///
 /// # Errors
@@ -55,13 +71,17 @@ fn tables_of(layout: Layout) -> usize
 /// `NotARegistry` where there is no table `meta` with its columns and its row; `Version` by that row;
 /// `Damaged` where a value of it can't be read; `Store` and `Memory`.
 fn find_layout<S: Alter>(alloc: Global, conn: &mut Connection<S>) -> Result<Layout, OpenFault>
+    ensures met { HasCleanDisk (state S.Store conn.new)
+        → OnOk result (HasMeta (state S.Store conn.old).now) }
+    ensures word { HasCleanDisk (state S.Store conn.new)
+        → IfErr result (TellsForm (state S.Store conn.old).now) }
     ensures rests { HasCleanDisk (state S.Store conn.new) → IsSettled (state S.Store conn.old)
         → Rests (state S.Store conn.old) (state S.Store conn.new) }
     ensures outside { conn.old.in_transaction ≡ false → conn.new.in_transaction ≡ false }
     ensures survives { Survives (state S.Store conn.old) (state S.Store conn.new) (λ _. ⊥) }
 {
-    match ask_tables(alloc, conn, 1) {
-        Ok(answers) => layout_of(read_meta(alloc, &answers)?.version),
+    match ask(conn, 0) {
+        Ok(rows) => layout_in(alloc, rows),
         Err(error) => Err(fault_of(error, OpenFault::NotARegistry)),
     }
 }
@@ -91,6 +111,7 @@ fn keep_tables<S: Alter>(
         kept.answers.items) }
     ensures judged { IfOk result (λ kept. IsRegistry layout kept.answers.items) }
     ensures few { IfOk result (λ kept. length kept.answers.items ≤ 16) }
+    ensures word { IfErr result IsBroken }
     ensures rests { HasCleanDisk (state S.Store conn.new) → IsSettled (state S.Store conn.old)
         → Rests (state S.Store conn.old) (state S.Store conn.new) }
     ensures works { OnOk result (HasCleanDisk (state S.Store conn.new)
@@ -116,7 +137,9 @@ fn views_of<S: Alter>(
     alloc: Global,
     conn: &Connection<S>,
     beside: Beside,
-) -> Result<String, OpenFault> {
+) -> Result<String, OpenFault>
+    ensures word { IfErr result IsBroken }
+{
     if !is_free(conn.schema(), beside) {
         return Err(OpenFault::Damaged);
     }
@@ -134,6 +157,8 @@ fn views_of<S: Alter>(
 ///
 /// Those of [`adopt`].
 pub fn examine<S: Alter>(alloc: Global, conn: &mut Connection<S>) -> Result<(), OpenFault>
+    ensures word { HasCleanDisk (state S.Store conn.new)
+        → IfErr result (TellsForm (state S.Store conn.old).now) }
     ensures rests { HasCleanDisk (state S.Store conn.new) → IsSettled (state S.Store conn.old)
         → Rests (state S.Store conn.old) (state S.Store conn.new) }
     ensures outside { conn.old.in_transaction ≡ false → conn.new.in_transaction ≡ false }
@@ -169,6 +194,8 @@ pub fn adopt<S: Alter, A: AdoptionObserver>(
     ensures needless { IsOurs (state S.Store conn.old).now.schema
         → (result ≡ Ok None) × (conn.new ≡ conn.old) }
     ensures other { result ≡ Ok None → IsOurs (state S.Store conn.old).now.schema }
+    ensures word { HasCleanDisk (state S.Store conn.new)
+        → IfErr result (TellsForm (state S.Store conn.old).now) }
     ensures kept { HasCleanDisk (state S.Store conn.new)
         → OnErr result (Rests (state S.Store conn.old) (state S.Store conn.new)) }
     ensures crash { Survives (state S.Store conn.old) (state S.Store conn.new)

@@ -1,7 +1,8 @@
 //! Which version of a registry the row of `meta` tells.
 
-ghost use Rattle.std.specs.Prelude.{◌≡◌, IfOk};
+ghost use Rattle.std.specs.Prelude.{◌≡◌, IfOk, IfErr};
 ghost use Rattle.goo_store_open.specs.Layout.{number_of};
+ghost use Rattle.goo_tables_rows.specs.declared.meta.MetaRow.{MetaRow as Row};
 ghost use Rattle.goo_store_adoption.specs.Judged.{IsOnlyRow};
 
 use goo_store_open::fault::OpenFault;
@@ -15,7 +16,9 @@ use goo_tables_rows::numbered_meta::NumberedMeta;
 ///
 /// `NotARegistry` where there is none, or another.
 pub fn only_row(rows: Vec<NumberedMeta>) -> Result<MetaRow, OpenFault>
-    ensures { IfOk result (IsOnlyRow rows.items) }
+    ensures only { IfOk result (IsOnlyRow rows.items) }
+    ensures none { IfErr result
+        (λ f. (f ≡ OpenFault.NotARegistry) × ((m : Row) → ¬ IsOnlyRow rows.items m)) }
 {
     let mut rows = rows;
     match rows.pop() {
@@ -30,7 +33,9 @@ pub fn only_row(rows: Vec<NumberedMeta>) -> Result<MetaRow, OpenFault>
 ///
 /// `Version` where it is neither of the two that are read here.
 pub fn layout_of(version: u32) -> Result<Layout, OpenFault>
-    ensures { IfOk result (λ layout. version ≡ number_of layout) }
+    ensures read { IfOk result (λ layout. version ≡ number_of layout) }
+    ensures other { IfErr result
+        (λ f. (f ≡ OpenFault.Version version) × (¬ (version ≡ 1)) × (¬ (version ≡ 2))) }
 {
     match version {
         1 => Ok(Layout::First),

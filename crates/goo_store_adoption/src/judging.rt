@@ -1,11 +1,12 @@
 //! The rules of the tables, judged over what was answered.
 
-ghost use Rattle.std.specs.Prelude.{IfOk, OnOk};
+ghost use Rattle.std.specs.Prelude.{IfOk, IfErr, OnOk};
 ghost use Rattle.std.specs.List.{AllZip};
 ghost use Rattle.goo_store_anew.specs.Answered.{rows_at};
 ghost use Rattle.goo_store_adoption.specs.Judged.{ReadsMembers, ReadsProduction, ReadsActs};
 ghost use Rattle.goo_store_adoption.specs.Judged.{ReadsNotices, ReadsCarriers, ReadsRows};
 ghost use Rattle.goo_store_adoption.specs.Judged.{ReadsMeta, ReadsAs, IsRegistry};
+ghost use Rattle.goo_store_adoption.specs.Refused.{IsBroken, IsMetaWord};
 
 use crate::beginning::only_row;
 use goo_store_anew::answers::Answer;
@@ -99,18 +100,38 @@ fn read_rows(alloc: Global, answers: &[Answer]) -> Result<AllRows, Error>
 /// `NotARegistry` where it is not the only one, under the number 1; `Damaged` where a value can't be
 /// read; `Memory`.
 pub fn read_meta(alloc: Global, answers: &[Answer]) -> Result<MetaRow, OpenFault>
-    ensures { IfOk result (ReadsMeta answers.now) }
+    ensures read { IfOk result (ReadsMeta answers.now) }
+    ensures word { IfErr result (IsMetaWord answers.now) }
 {
     match read(alloc, answers, 0) {
         Ok(rows) => only_row(rows),
-        Err(error) => Err(fault_of(error, OpenFault::NotARegistry)),
+        Err(error) => Err(fault_of(error, OpenFault::Damaged)),
     }
 }
 
-fn read_found(alloc: Global, answers: &[Answer]) -> Result<Found, OpenFault>
-    ensures { IfOk result (ReadsAs answers.now) }
+/// The word for rows of `meta` that are not those of a registry, where they were before.
+fn broken(fault: OpenFault) -> OpenFault
+    ensures { IsBroken result }
 {
-    let meta = read_meta(alloc, answers)?;
+    match fault {
+        OpenFault::Store | OpenFault::Memory => fault,
+        _ => OpenFault::Damaged,
+    }
+}
+
+/// All that was answered, read.
+///
+/// # Errors
+///
+/// `Damaged` where a value can't be read; `Memory`.
+fn read_found(alloc: Global, answers: &[Answer]) -> Result<Found, OpenFault>
+    ensures read { IfOk result (ReadsAs answers.now) }
+    ensures word { IfErr result IsBroken }
+{
+    let meta = match read_meta(alloc, answers) {
+        Ok(meta) => meta,
+        Err(fault) => return Err(broken(fault)),
+    };
     match read_rows(alloc, answers) {
         Ok(rows) => Ok(Found { meta, rows }),
         Err(error) => Err(fault_of(error, OpenFault::Damaged)),
@@ -121,14 +142,14 @@ fn read_found(alloc: Global, answers: &[Answer]) -> Result<Found, OpenFault>
 ///
 /// # Errors
 ///
-/// Those of `read_meta`; `Version` where the row tells another version; `Damaged` where a value can't
-/// be read or a rule is broken; `Memory`.
+/// `Damaged` where a value can't be read or a rule is broken; `Memory`.
 pub fn judge(alloc: Global, layout: Layout, answers: &[Answer]) -> Result<(), OpenFault>
-    ensures { OnOk result (IsRegistry layout answers.now) }
+    ensures judged { OnOk result (IsRegistry layout answers.now) }
+    ensures word { IfErr result IsBroken }
 {
     let found = read_found(alloc, answers)?;
     if found.meta.version != layout.version() {
-        return Err(OpenFault::Version(found.meta.version));
+        return Err(OpenFault::Damaged);
     }
     match keeps_rules(alloc, &found, layout.version()) {
         Ok(true) => Ok(()),

@@ -7,6 +7,8 @@ ghost use Rattle.sqlite.specs.Tree.{Trees};
 ghost use Rattle.sqlite_trees.specs.View.{doubt, IsClean};
 ghost use Rattle.goo_store_trees.specs.Less.{IsLessBoth};
 ghost use Rattle.goo_store_trees.specs.JustOpened.{IsJustOpened};
+ghost use Rattle.goo_store_open.specs.Found.{IsOutside};
+ghost use Rattle.goo_store_adoption.specs.Refused.{TellsForm};
 ghost use Rattle.goo_store_adoption.specs.Taken.{LessStatistics};
 
 use crate::adopting::examine;
@@ -19,7 +21,9 @@ use sqlite::{Alter, Connection, Error, ErrorCode};
 use std::alloc::Global;
 
 /// The word for what kept a database from being opened once more.
-pub fn word_of_opening(error: Error) -> OpenFault {
+pub fn word_of_opening(error: Error) -> OpenFault
+    ensures { IsOutside result }
+{
     match error {
         Error::SqliteFailure(ErrorCode::OutOfMemory) => OpenFault::Memory,
         _ => OpenFault::Store,
@@ -45,6 +49,7 @@ fn dropped<S: Alter + Drop>(
         (λ e. IsClean (S.Store.view e.0) → (db : Trees) → S.Store.recovers e.0 db
         → (state S.Store conn).may_leave db ⊎ (IsTrue (state S.Store conn).is_open
         × IsLessBoth one other (state S.Store conn).committed.trees db)) }
+    ensures word { IfErr result (λ e. IsOutside e.1) }
 {
     match reopen_without(alloc, conn, one, other) {
         Ok(conn) => Ok(conn),
@@ -75,6 +80,8 @@ pub fn drop_statistics<S: Alter + Drop, A: AdoptionObserver>(
     ensures left { IfErr result
         (λ e. IsClean (S.Store.view e.0) → (db : Trees) → S.Store.recovers e.0 db
         → (state S.Store conn).may_leave db ⊎ LessStatistics (state S.Store conn).now db) }
+    ensures word { IfErr result
+        (λ e. IsClean (S.Store.view e.0) → TellsForm (state S.Store conn).now e.1) }
 {
     let _settled = conn.is_autocommit();
     let tables = conn.schema().tables.as_slice();

@@ -7,6 +7,8 @@ ghost use Rattle.sqlite.specs.Tree.{Trees};
 ghost use Rattle.sqlite_trees.specs.View.{doubt, IsClean};
 ghost use Rattle.goo_store_adoption.specs.Judged.{IsOurs, HoldSame};
 ghost use Rattle.goo_store_trees.specs.JustOpened.{IsJustOpened};
+ghost use Rattle.goo_store_open.specs.Found.{IsOutside};
+ghost use Rattle.goo_store_adoption.specs.Refused.{TellsForm, TellsFormOf};
 ghost use Rattle.goo_store_adoption.specs.Taken.{Became};
 
 use crate::adopting::adopt;
@@ -34,6 +36,7 @@ fn reopened<S: Alter + Drop>(
         (λ e. doubt (state S.Store conn).is_clean ≤ doubt (S.Store.view e.0).is_clean) }
     ensures left { IfErr result
         (λ e. (db : Trees) → S.Store.recovers e.0 db → (state S.Store conn).may_leave db) }
+    ensures word { IfErr result (λ e. IsOutside e.1) }
 {
     match reopen(alloc, conn) {
         Ok(conn) => Ok(conn),
@@ -60,6 +63,8 @@ fn adopted<S: Alter + Drop, A: AdoptionObserver>(
     ensures left { IfErr result
         (λ e. IsClean (S.Store.view e.0) → (db : Trees) → S.Store.recovers e.0 db
         → (state S.Store conn).may_leave db ⊎ HoldSame (state S.Store conn).now db) }
+    ensures word { IfErr result
+        (λ e. IsClean (S.Store.view e.0) → TellsForm (state S.Store conn).now e.1) }
 {
     let mut conn = conn;
     match adopt(alloc, &mut conn, observer) {
@@ -98,6 +103,8 @@ pub fn take_over<S: Alter + Drop, A: AdoptionObserver>(
     ensures left { IfErr result
         (λ e. IsClean (S.Store.view e.0) → (db : Trees) → S.Store.recovers e.0 db
         → (state S.Store conn).may_leave db ⊎ Became (state S.Store conn).now db) }
+    ensures word { IfErr result
+        (λ e. IsClean (S.Store.view e.0) → TellsFormOf (state S.Store conn).now e.1) }
 {
     if has_our_schema(&conn) || has_first_schema(&conn) {
         return Ok(conn);

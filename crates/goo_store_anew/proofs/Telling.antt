@@ -1,5 +1,5 @@
 -- What a question shows is what the database answers, and it changes nothing.
-use Rattle.std.proofs.Common.{◌≡◌, ◌⊎◌, inl, inr, ◌<◌, ℕ, zero, suc, true, List, [], ◌∷◌, length, get_or, Ok, Err, Result, IfOk, IfErr, OnOk, IsTrue, refl, subst, arith}
+use Rattle.std.proofs.Common.{◌≡◌, ◌⊎◌, inl, inr, ◌<◌, ℕ, zero, suc, true, List, [], ◌∷◌, length, get_or, Option, Ok, Err, Result, IfOk, IfErr, OnOk, IsTrue, refl, subst, sym, arith}
 use Rattle.std.specs.Prelude.{Vec}
 use Rattle.std.specs.declared.alloc.Global.{Global}
 use Rattle.std.specs.List.{AllByRecursion}
@@ -10,12 +10,17 @@ use Rattle.sqlite.specs.Listing.{understood}
 use Rattle.sqlite.specs.Order.{Row}
 use Rattle.sqlite.specs.Schema.{Schema}
 use Rattle.sqlite.specs.declared.error.Error.{Error}
-use Rattle.sqlite.specs.State.{State, IsUnchanged, Shown, ShowsRows, FailsToQuery, FailsToShow, IsNotRun, IsTooLate, KeepsCommit, CommitsShowing, Survives}
+use Rattle.sqlite_schema.specs.declared.command.Command.{Command}
+use Rattle.sqlite_schema.specs.declared.command.Command.TheVariants.{Select, Rows}
+use Rattle.sqlite.specs.Effect.{Database, RefusesToRead}
+use Rattle.sqlite_trees.specs.declared.error.StoreError.{StoreError}
+use Rattle.sqlite_trees.specs.declared.error.StoreError.TheVariants.{OutOfMemory, Io, Corrupt, Full, Broken, Unstorable}
+use Rattle.sqlite.specs.State.{State, IsUnchanged, Shown, ShowsRows, FailsToQuery, FailsToShow, IsNoStatement, IsNotRun, IsTooLate, KeepsCommit, CommitsShowing, Survives, store_error}
 use Rattle.sqlite.specs.Tree.{Trees}
 use Rattle.sqlite.proofs.StateLemmas.{survives_weaker}
 use Rattle.goo_tables_rows.specs.Stands.{Rests, IsSettled}
 use Rattle.goo_tables_rows.proofs.Reading.{rests_failed, rests_unchanged}
-use Rattle.goo_store_anew.specs.Answered.{Answers}
+use Rattle.goo_store_anew.specs.Answered.{Answers, IsErrorFor}
 use Rattle.goo_store_anew.specs.Questions.{question_texts}
 use Rattle.goo_store_anew.proofs.Selecting.{IsBare, reads_alone, understood_bare}
 
@@ -33,6 +38,29 @@ at_place P (x ∷ xs) (suc at) all low = at_place P xs at all.1 (omega (arith, l
 
 pub question_bare : (schema : Schema) (at : ℕ) → at < 16 → IsBare (understood schema (get_or question_texts at []))
 question_bare schema at low = understood_bare schema (get_or question_texts at []) (at_place IsQuestion question_texts at all_questions low)
+
+module _ (schema : Schema) (sql : List ℕ) where
+  store_word : (cause : StoreError) → IsErrorFor schema sql (store_error cause)
+  store_word OutOfMemory = tt
+  store_word Io = tt
+  store_word Corrupt = tt
+  store_word Full = tt
+  store_word Broken = tt
+  store_word Unstorable = tt
+
+  read_word : (limit : Option ℕ) (command : Command) (db : Database) (params : Row) (e : Error) → RefusesToRead limit command db params e → IsErrorFor schema sql e
+  read_word limit (Select q names) db params e (inl h) = subst (IsErrorFor schema sql) (sym h.0) tt
+  read_word limit (Select q names) db params e (inr (inl h)) = subst (IsErrorFor schema sql) (sym h.0) tt
+  read_word limit (Select q names) db params e (inr (inr h)) = subst (IsErrorFor schema sql) (sym h.0) tt
+  read_word limit (Rows values width names) db params e h = subst (IsErrorFor schema sql) (sym h.0) tt
+  read_word limit _ db params e h = subst (IsErrorFor schema sql) (sym h) tt
+
+-- the text is no statement
+no_statement : (sql : List ℕ) (old : State) (e : Error) → IsNoStatement old sql [] e → IsErrorFor old.now.schema sql e
+no_statement sql old e (inl h) = subst (IsErrorFor old.now.schema sql) (sym h.2) (h.0, h.1)
+no_statement sql old e (inr (c, is, inl h)) = subst (IsErrorFor old.now.schema sql) (sym h.1) tt
+no_statement sql old e (inr (c, is, inr (inl h))) = subst (IsErrorFor old.now.schema sql) (sym h.1) tt
+no_statement sql old e (inr (c, is, inr (inr h))) = subst (IsErrorFor old.now.schema sql) (sym h.1) tt
 
 module _ (sql : List ℕ) (old new : State) (bare : IsBare (understood old.now.schema sql)) where
   pub unchanged : (rows : List Row) → Shown sql [] old new rows → IsUnchanged old new
@@ -86,3 +114,16 @@ module _ (sql : List ℕ) (old new : State) (bare : IsBare (understood old.now.s
 
   pub same_now : (rows : List Row) → Shown sql [] old new rows → new.now ≡ old.now
   same_now rows h = (unchanged rows h).0.now_is
+
+  failed_word : (e : Error) → FailsToQuery sql [] old new e → IsErrorFor old.now.schema sql e
+  unfolding FailsToQuery IsNotRun
+  failed_word e (inl (inl h)) = no_statement sql old e h.0
+  failed_word e (inl (inr h)) = subst (IsErrorFor old.now.schema sql) (sym h.1) (store_word old.now.schema sql h.0)
+  failed_word e (inr h) =
+      let none = subst IsBare h.1.is bare in
+      let shown = subst (FailsToShow old new sql h.0 (timed [] h.0.formats h.1.now) e) none h.2 in
+      read_word old.now.schema sql old.step_limit h.0.command shown.0 (timed [] h.0.formats h.1.now) e shown.2
+
+  pub word : (r : Result (Vec Row Global) Error) → IfErr r (FailsToQuery sql [] old new) → IfErr r (IsErrorFor old.now.schema sql)
+  word (Ok rows) fails = tt
+  word (Err e) fails = failed_word e fails

@@ -1,10 +1,10 @@
 //! The rows of the tables, asked for by the names of their columns.
 
-ghost use Rattle.std.specs.Prelude.{◌≡◌, ◌<◌, ◌≤◌, false, length, IsTrue, IfOk, OnOk};
+ghost use Rattle.std.specs.Prelude.{◌≡◌, ◌<◌, ◌≤◌, false, length, IsTrue, IfOk, IfErr, OnOk};
 ghost use Rattle.sqlite.specs.Held.{state};
 ghost use Rattle.sqlite.specs.State.{HasCleanDisk, Survives};
 ghost use Rattle.goo_tables_rows.specs.Stands.{Rests, IsSettled};
-ghost use Rattle.goo_store_anew.specs.Answered.{Shows, AreAnswers};
+ghost use Rattle.goo_store_anew.specs.Answered.{Shows, IsErrorOf, AreAnswers};
 ghost use Rattle.goo_store_anew.specs.Quiet.{IsQuiet};
 
 use crate::answers::Answer;
@@ -17,12 +17,15 @@ use std::alloc::Global;
 ///
 /// # Errors
 ///
-/// Those of the question.
+/// Those of the question: `SqlInputError` where the table or a column of it is missing, and none of
+/// reading a value.
 pub fn ask<S: Alter>(conn: &mut Connection<S>, at: usize) -> Result<Vec<Row>, Error>
     requires { at < 16 }
     ensures told { HasCleanDisk (state S.Store conn.new)
         → IfOk result
         (λ rows. Shows (state S.Store conn.old).now at rows.items) }
+    ensures word { HasCleanDisk (state S.Store conn.new)
+        → IfErr result (IsErrorOf (state S.Store conn.old).now at) }
     ensures rests { HasCleanDisk (state S.Store conn.new) → IsSettled (state S.Store conn.old)
         → Rests (state S.Store conn.old) (state S.Store conn.new) }
     ensures works { OnOk result (HasCleanDisk (state S.Store conn.new)

@@ -21,6 +21,7 @@ returns-in-Err-clause-refused g c = λ clean.
       fault = c.in-Err.fault;
       tells = c.failure_of.ensures;
       foreign = λ ours. absurd (let e = it.needless ours in cc);
+      word = it.word (honest _ clean);
       clean = clean_before _ _ it.lost clean;
       left = it.left (honest _ clean);
     })

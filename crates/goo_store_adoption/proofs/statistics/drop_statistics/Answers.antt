@@ -16,11 +16,11 @@ returns-in-Ok-clause-less g c =
     let later : IsTreeOf a.now (codes "sqlite_stat4") c.tree_of-other.result = named_in c.schema.result.now a.now.schema _ (codes "sqlite_stat4") c.tree_of-other.result c.schema.ensures.value c.as_slice-tables.ensures c.tree_of-other.ensures in
     if_both c.dropped.result
     (λ conn kept dropped clean.
-      let it = dropped clean in
-      let late : HasCleanDisk b = omega (arith, kept, clean) in
-      let before : HasCleanDisk a = omega (arith, late, c.examine.ensures.survives.clean) in
-      let settled = (c.requires.opened before).0.clean in
-      less_since a b c.tree_of-one.result c.tree_of-other.result _ settled ((c.examine.ensures.rests late (λ live. settled)).committed it.0) first later it.1)
+    let it = dropped clean in
+    let late : HasCleanDisk b = omega (arith, kept, clean) in
+    let before : HasCleanDisk a = omega (arith, late, c.examine.ensures.survives.clean) in
+    let settled = (c.requires.opened before).0.clean in
+    less_since a b c.tree_of-one.result c.tree_of-other.result _ settled ((c.examine.ensures.rests late (λ live. settled)).committed it.0) first later it.1)
     c.dropped.ensures.clean c.dropped.ensures.dropped
 
 pub returns-in-Ok-clause-left : goal.returns-in-Ok-clause-left
@@ -31,11 +31,11 @@ returns-in-Ok-clause-left g c =
     let later : IsTreeOf a.now (codes "sqlite_stat4") c.tree_of-other.result = named_in c.schema.result.now a.now.schema _ (codes "sqlite_stat4") c.tree_of-other.result c.schema.ensures.value c.as_slice-tables.ensures c.tree_of-other.ensures in
     err_both c.dropped.result
     (λ e lost left clean db may.
-      let late : HasCleanDisk b = omega (arith, lost, clean) in
-      let before : HasCleanDisk a = omega (arith, late, c.examine.ensures.survives.clean) in
-      let settled = (c.requires.opened before).0.clean in
-      elim (left clean db may) [
-        | inl there ↦ elim (c.examine.ensures.survives.crash late db there) [ inl was ↦ inl was | inr never ↦ absurd never ]
-        | inr it ↦ inr (less_since a b c.tree_of-one.result c.tree_of-other.result db settled ((c.examine.ensures.rests late (λ live. settled)).committed it.0) first later it.1)
-      ])
+    let late : HasCleanDisk b = omega (arith, lost, clean) in
+    let before : HasCleanDisk a = omega (arith, late, c.examine.ensures.survives.clean) in
+    let settled = (c.requires.opened before).0.clean in
+    elim (left clean db may) [
+      | inl there ↦ elim (c.examine.ensures.survives.crash late db there) [ inl was ↦ inl was | inr never ↦ absurd never ]
+      | inr it ↦ inr (less_since a b c.tree_of-one.result c.tree_of-other.result db settled ((c.examine.ensures.rests late (λ live. settled)).committed it.0) first later it.1)
+    ])
     c.dropped.ensures.lost c.dropped.ensures.left

@@ -16,11 +16,11 @@ returns-in-Ok-Some-clause-comes g c =
     let out : IsTrue c.is_autocommit-settled.result = search rules in
     if_both c.reopened.result
     (λ conn kept same clean.
-      let it = same clean in
-      let late : HasCleanDisk b = omega (arith, kept, clean) in
-      let judged = subst (λ (o : Option Layout). IfSome o (λ layout. HoldsRegistry layout a.now)) c.in-Ok-Some.field-0-is (c.in-Ok-Some.ensures.judged late) in
-      let alike = subst (λ (o : Option Layout). IfSome o (λ layout. IsSameIn (count_of layout) a.now b.now)) c.in-Ok-Some.field-0-is (c.in-Ok-Some.ensures.same late) in
-      inr (c.in-Ok-Some.field-0-0, judged, b.now, it.1 ∙ sym (ap (λ (d : Database). d.trees) (c.is_autocommit-settled.ensures.settled out it.0)), alike))
+    let it = same clean in
+    let late : HasCleanDisk b = omega (arith, kept, clean) in
+    let judged = subst (λ (o : Option Layout). IfSome o (λ layout. HoldsRegistry layout a.now)) c.in-Ok-Some.field-0-is (c.in-Ok-Some.ensures.judged late) in
+    let alike = subst (λ (o : Option Layout). IfSome o (λ layout. IsSameIn (count_of layout) a.now b.now)) c.in-Ok-Some.field-0-is (c.in-Ok-Some.ensures.same late) in
+    inr (c.in-Ok-Some.field-0-0, judged, b.now, it.1 ∙ sym (ap (λ (d : Database). d.trees) (c.is_autocommit-settled.ensures.settled out it.0)), alike))
     c.reopened.ensures.clean c.reopened.ensures.same
 
 pub returns-in-Ok-Some-clause-left : goal.returns-in-Ok-Some-clause-left

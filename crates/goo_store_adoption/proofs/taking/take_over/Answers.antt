@@ -26,12 +26,12 @@ returns-in-Ok-clause-left g c =
     let foreign : IsOurs a.now.schema → ⊥ = foreign_by a.now.schema c.has_our_schema.result c.has_first_schema.result c.has_our_schema.ensures.schema.1 c.has_first_schema.ensures.schema.1 no nor in
     err_both c.adopted.result
     (λ e lost left clean db may.
-      let late : HasCleanDisk m = omega (arith, lost, clean) in
-      let it = c.in-Ok.ensures.opened.opened late in
-      elim (left clean db may) [
-        | inl there ↦ inr (became_by a.now m.now db foreign (c.in-Ok.ensures.less late) (inl (g.met.S.Store.settled c.in-Ok.conn.store db it.0.is_open there ∙ sym (ap (λ (d : Database). d.trees) it.0.clean))))
-        | inr same ↦ inr (became_by a.now m.now db foreign (c.in-Ok.ensures.less late) (inr same))
-      ])
+    let late : HasCleanDisk m = omega (arith, lost, clean) in
+    let it = c.in-Ok.ensures.opened.opened late in
+    elim (left clean db may) [
+      | inl there ↦ inr (became_by a.now m.now db foreign (c.in-Ok.ensures.less late) (inl (g.met.S.Store.settled c.in-Ok.conn.store db it.0.is_open there ∙ sym (ap (λ (d : Database). d.trees) it.0.clean))))
+      | inr same ↦ inr (became_by a.now m.now db foreign (c.in-Ok.ensures.less late) (inr same))
+    ])
     c.adopted.ensures.lost c.adopted.ensures.left
 
 pub returns-in-Err-clause-left : goal.returns-in-Err-clause-left

@@ -1,7 +1,7 @@
 use Rattle.std.proofs.Common.{[], get_or, rules}
 use Rattle.sqlite.specs.Held.{state}
 use Rattle.goo_store_anew.specs.Questions.{question_texts}
-use Rattle.goo_store_anew.proofs.Telling.{question_bare, told, opens, rests, commits_nothing}
+use Rattle.goo_store_anew.proofs.Telling.{question_bare, told, opens, rests, commits_nothing, word}
 use Rattle.goo_store_anew.proofs.asking.ask.Goals as goal
 
 pub returns-clause-told : goal.returns-clause-told
@@ -27,3 +27,9 @@ returns-clause-survives g c =
     let old = state g.S.Store c.args.conn.now in
     let sql = get_or question_texts c.args.at [] in
     commits_nothing sql old (state g.S.Store c.query_all.new.self) (question_bare old.now.schema c.args.at c.requires) (rw (c.question.ensures) at c.query_all.ensures.survives)
+
+pub returns-clause-word : goal.returns-clause-word
+returns-clause-word g c = λ clean.
+    let old = state g.S.Store c.args.conn.now in
+    let sql = get_or question_texts c.args.at [] in
+    word sql old (state g.S.Store c.query_all.new.self) (question_bare old.now.schema c.args.at c.requires) c.query_all.result (rw (c.question.ensures) at (c.query_all.ensures.err clean))
