@@ -2,9 +2,12 @@
 
 use goo_store_adoption::adopting::adopt;
 use goo_store_adoption::observer::AdoptionObserver;
+use goo_store_adoption::taking::take_over;
 use goo_store_open::fault::OpenFault;
 use goo_store_open::layout::Layout;
 use goo_store_open::our_schema::{has_first_schema, has_our_schema};
+use goo_store_trees::dropping::tree_of;
+use goo_store_trees::reopening::{reopen, reopen_without};
 use sqlite::{Connection, MemStore};
 use std::alloc::Global;
 use std::process::Abort;
@@ -165,4 +168,62 @@ fn what_is_no_registry(rt: HostRuntime) {
         OpenFault::Damaged,
         "a table of another program",
     );
+}
+
+/// Whether a database has a table of this name.
+fn has_table(conn: &Connection<MemStore>, name: &[u8]) -> bool {
+    tree_of(conn.schema().tables.as_slice(), name).is_some()
+}
+
+#[test]
+fn a_database_taken_over(rt: HostRuntime) {
+    let mut told = Told { times: 0 };
+    let conn = made(&rt, rt.alloc(), &[UNTYPED, ROWS]);
+    match reopen(rt.alloc(), conn) {
+        Ok(conn) => match take_over(rt.alloc(), conn, &mut told) {
+            Ok(conn) => holds(&rt, has_our_schema(&conn), "the tables are not ours then"),
+            Err(_) => holds(&rt, false, "it is refused"),
+        },
+        Err(_) => holds(&rt, false, "it is not opened once more"),
+    }
+    holds(&rt, told.times == 1, "it is not told once");
+}
+
+#[test]
+fn a_damaged_database_handed_back(rt: HostRuntime) {
+    let mut told = Told { times: 0 };
+    let conn = made(
+        &rt,
+        rt.alloc(),
+        &[UNTYPED, ROWS, "UPDATE account SET holder = 'NONE'"],
+    );
+    match reopen(rt.alloc(), conn) {
+        Ok(conn) => {
+            let taken = take_over(rt.alloc(), conn, &mut told);
+            holds(
+                &rt,
+                matches!(taken, Err((_, OpenFault::Damaged))),
+                "it is not damaged",
+            );
+        }
+        Err(_) => holds(&rt, false, "it is not opened once more"),
+    }
+    holds(&rt, told.times == 0, "it is told");
+}
+
+#[test]
+fn one_table_taken_away(rt: HostRuntime) {
+    let conn = made(
+        &rt,
+        rt.alloc(),
+        &["CREATE TABLE one (id INTEGER PRIMARY KEY); CREATE TABLE other (id INTEGER PRIMARY KEY)"],
+    );
+    let tree = tree_of(conn.schema().tables.as_slice(), b"one");
+    match reopen_without(rt.alloc(), conn, tree, None) {
+        Ok(conn) => {
+            holds(&rt, !has_table(&conn, b"one"), "the table is there");
+            holds(&rt, has_table(&conn, b"other"), "the other is gone");
+        }
+        Err(_) => holds(&rt, false, "it is not opened once more"),
+    }
 }
