@@ -11,4 +11,4 @@ returns-clause-few g c = omega (arith, c.in-Ok.ensures.long, c.tables_of.ensures
 pub returns-clause-judged : goal.returns-clause-judged
 returns-clause-judged g c =
     let lent : c.deref.result.now ≡ c.in-Ok.answers.items = search rules in
-    subst (IsRegistry c.args.layout) lent c.in_ok-judge.ensures
+    subst (IsRegistry c.args.layout) lent c.in_ok-judge.ensures.judged

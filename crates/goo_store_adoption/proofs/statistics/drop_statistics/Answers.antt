@@ -39,3 +39,8 @@ returns-in-Ok-clause-left g c =
       | inr it ↦ inr (less_since a b c.tree_of-one.result c.tree_of-other.result db settled ((c.examine.ensures.rests late (λ live. settled)).committed it.0) first later it.1)
     ])
     c.dropped.ensures.lost c.dropped.ensures.left
+
+pub returns-in-Err-clause-word : goal.returns-in-Err-clause-word
+returns-in-Err-clause-word g c = λ clean.
+    let late : HasCleanDisk (state g.S.Store c.examine.new.conn) = omega (arith, clean, c.settled_store.ensures.quiet.clean) in
+    c.in-Err.ensures.word late

@@ -26,3 +26,8 @@ returns-in-Ok-Some-clause-comes g c =
 pub returns-in-Ok-Some-clause-left : goal.returns-in-Ok-Some-clause-left
 returns-in-Ok-Some-clause-left g c =
     err_both c.reopened.result (λ e lost left clean db may. c.in-Ok-Some.ensures.crash.crash (omega (arith, lost, clean)) db (left db may)) c.reopened.ensures.lost c.reopened.ensures.left
+
+pub returns-in-Err-clause-word : goal.returns-in-Err-clause-word
+returns-in-Err-clause-word g c = λ clean.
+    let late : HasCleanDisk (state g.S.Store c.adopt.new.conn) = omega (arith, clean, c.settled_store.ensures.quiet.clean) in
+    c.in-Err.ensures.word late
