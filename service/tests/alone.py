@@ -20,11 +20,11 @@ from typing import Self
 import client
 from goo_service.log import entries
 from goo_service.log import position
-from house import SERVICE
+from door import SERVICE
 from service_commands import command
-from house import Answer
-from house import fields_of
-from house import read_answer
+from calls import Answer
+from calls import fields_of
+from calls import read_answer
 from parts import Guard
 from parts import Part
 

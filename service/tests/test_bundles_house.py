@@ -8,7 +8,7 @@ from typing import Any
 import client
 from alone import Alone
 from goo_service.log import entries
-from house import Answer
+from calls import Answer
 from house import House
 from service_commands import command
 

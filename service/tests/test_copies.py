@@ -20,7 +20,6 @@ from goo_service.copies import contents
 from goo_service.log import entries
 from goo_service.log.archive import Archive
 from goo_service.log.archive import compress
-import loopback
 from goo_service.common import owner
 import pytest
 from goo_service.copies import nightly
@@ -31,15 +30,16 @@ from goo_service.copies.places import read_place
 from goo_service.log import position
 from goo_service.copies import rows
 from goo_service.log import reversal
-from house import Country
-from house import SERVICE
+from calls import Country
+from door import SERVICE
 from house import House
 from mutations import gsrn
 from plants import copied
 from plants import plant
+from programs import find_registry
 from service_commands import command
 
-GOO = str(Path(loopback.program()).resolve())
+GOO = str(Path(find_registry()).resolve())
 KEY = b'the key of a trial'
 HEADER = b'key,device,first_day,last_day,gross_wh,aux_wh\n'
 NOBODY = 65534

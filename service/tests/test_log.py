@@ -13,7 +13,7 @@ from pathlib import Path
 
 import pytest
 
-from house import SERVICE
+from door import SERVICE
 from service_commands import command
 from goo_service.log import ends
 from goo_service.log import entries

@@ -16,8 +16,8 @@ import pytest
 from goo_service.log import entries
 from alone import KEY
 from alone import Alone
-from house import SERVICE
-from house import Answer
+from door import SERVICE
+from calls import Answer
 from service_commands import command
 
 HEADER = b'key,device,first_day,last_day,gross_wh,aux_wh\n'

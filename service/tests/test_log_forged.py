@@ -20,7 +20,7 @@ from hypothesis import given
 from hypothesis import settings
 from hypothesis import strategies
 from house import House
-from house import read_answer
+from calls import read_answer
 from test_log import KEY
 from test_log import archive_of
 from test_log import entry_of

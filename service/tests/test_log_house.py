@@ -7,8 +7,8 @@ from typing import Any
 
 from goo_service.log import entries
 import pytest
-from house import SERVICE
-from house import Answer
+from door import SERVICE
+from calls import Answer
 from house import House
 from service_commands import command
 

@@ -11,8 +11,8 @@ from goo_service.log import entries
 from goo_service.log import reversal
 from fake_log import FakeLog
 from fake_log import comes
-from house import Answer
-from house import Country
+from calls import Answer
+from calls import Country
 from house import House
 from house_people import Signed
 

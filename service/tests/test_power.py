@@ -25,11 +25,11 @@ from disk import Call
 from disk import Disk
 from disk import read_trace
 from disk import watch
-from house import Answer
-from house import Country
+from calls import Answer
+from calls import Country
 from house import House
-from house import ISSUER
-from house import read_answer
+from calls import ISSUER
+from calls import read_answer
 from parts import NotStarted
 from parts import Part
 from plants import append
