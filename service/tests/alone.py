@@ -18,6 +18,7 @@ from typing import Any
 from typing import Self
 
 import client
+from goo_service.log import reader
 from goo_service.log import entries
 from goo_service.log import position
 from door import SERVICE
@@ -168,7 +169,7 @@ class Alone:
 
     def records(self) -> list[entries.Record]:
         """The entries of requests that were applied, from the archive."""
-        found = list(entries.read_archive(self.state / 'archive', 0, KEY))
+        found = list(reader.read_archive(self.state / 'archive', 0, KEY))
         return [record for record in found if record.entry.method == 'POST']
 
     def said(self) -> str:

@@ -5,6 +5,7 @@ import subprocess
 from pathlib import Path
 from typing import Any
 
+from goo_service.log import reader
 from goo_service.log import entries
 import pytest
 from door import SERVICE
@@ -18,7 +19,7 @@ TOMORROW = (datetime.date.today() + datetime.timedelta(1)).isoformat()
 
 
 def archived(house: House) -> list[entries.Record]:
-    return list(entries.read_archive(house.state / 'archive'))
+    return list(reader.read_archive(house.state / 'archive'))
 
 
 def error_of(answer: Answer) -> str:

@@ -30,6 +30,7 @@ from acts_by_chance import follow
 from archives import make_archive
 from client import answered
 from client import request
+from goo_service.log import reader
 from goo_service.log import entries
 from goo_service.records import acts as acts_module
 from goo_service.rules.certificates import PLACES
@@ -88,7 +89,7 @@ def made(tmp_path_factory: pytest.TempPathFactory, pytestconfig: pytest.Config) 
     make_archive(find_registry(), folder / 'archive', Requests(seed).all(acts), code=CODE,
                  today=TODAY, then=lambda port: truth.append(Truth(port)))
     follow(folder / 'archive', folder / 'book')
-    records = list(entries.read_archive(folder / 'archive'))
+    records = list(reader.read_archive(folder / 'archive'))
     return Made(Service(folder / 'book'), records, truth[0])
 
 
