@@ -39,20 +39,25 @@ class Found:
                 f'  device {self.device}, {self.first_day} to {self.last_day}')
 
 
-def by_old_number(folder: Path, settings: Settings, text: str) -> Found | None:
-    """The certificate of an old number. NoRange where the text is none."""
-    certificate = Reader(settings).certificate(text)
+def by_old_number(folder: Path, settings: Settings, text: str) -> list[Found]:
+    """The certificates of an old number. NoRange where the text is none.
+
+    There are two where a third registry has given the number to another certificate.
+    """
     with work.opened(folder) as database:
-        return found(database, 's.series = ? AND s.counted <= ?', 's.counted',
-                     (certificate.series, certificate.counted), certificate.counted, 2)
+        each = (found(database, 's.series = ? AND s.counted <= ?', 's.counted',
+                      (one.series, one.counted), one.counted, 2)
+                for one in Reader(settings).candidates(text))
+        return [of for of in each if of]
 
 
-def by_new_number(folder: Path, text: str) -> Found | None:
-    """The certificate of a new number."""
+def by_new_number(folder: Path, text: str) -> list[Found]:
+    """The certificate of a new number; none, or one."""
     if not (text.isascii() and text.isdecimal() and len(text) == 14):
         raise NoRange('number', f'{text[:40]!r} is no number of 14 digits')
     with work.opened(folder) as database:
-        return found(database, 's.first <= ?', 's.first', (int(text),), int(text), 4)
+        of = found(database, 's.first <= ?', 's.first', (int(text),), int(text), 4)
+    return [of] if of else []
 
 
 def found(database: sqlite3.Connection, where: str, by: str, values: tuple[object, ...],

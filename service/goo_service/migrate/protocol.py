@@ -12,6 +12,7 @@ from typing import Any
 from goo_service.common.files import write_whole
 from goo_service.exchange.signature import Key
 from goo_service.exchange.signature import is_signed
+from goo_service.migrate import left_out
 from goo_service.migrate import plan
 from goo_service.migrate import sending
 from goo_service.migrate import settings as settings_of
@@ -24,7 +25,7 @@ from goo_service.migrate.sums import Comparison
 from goo_service.migrate.sums import Sums
 
 NAME, SIGNATURE = 'protocol.json', 'protocol.sig'
-LISTS = (plan.NUMBERS, plan.CARRIED)
+LISTS = (plan.NUMBERS, plan.CARRIED, left_out.NAME)
 
 
 def stated(folder: Path, settings: Settings, comparison: Comparison) -> dict[str, Any]:
@@ -36,6 +37,7 @@ def stated(folder: Path, settings: Settings, comparison: Comparison) -> dict[str
                                   'ORDER BY kind').fetchall()
         left = database.execute('SELECT source, count(*) FROM left_out GROUP BY source '
                                 'ORDER BY source').fetchall()
+        stock = left_out.counts(database)
         papers = database.execute('SELECT file, bytes, hash, holder, about FROM kept_document '
                                   'ORDER BY file').fetchall()
     return {
@@ -47,6 +49,9 @@ def stated(folder: Path, settings: Settings, comparison: Comparison) -> dict[str
         'lists (SHA-256)': {name: tables.hash_of(folder / name) for name in LISTS},
         'plan': {'SHA-256': current, 'requests': count, 'answered': sending.place(folder, current)},
         'faults waived': dict(waived), 'rows left out': dict(left),
+        'certificates left out': {of.why: {'certificates': of.certificates, 'rows': of.rows,
+                                           'rows that can not be read': of.rows - of.read}
+                                  for of in stock},
         'carried energy': settings.choice,
         'sums of the tables': sums(folder / STATED, comparison.stated),
         'sums of the registry': sums(folder / HELD, comparison.held),
@@ -58,7 +63,10 @@ def stated(folder: Path, settings: Settings, comparison: Comparison) -> dict[str
 
 
 def sums(path: Path, of: Sums) -> dict[str, Any]:
-    return {'certificates': of.total, 'ranges': of.ranges, 'SHA-256': tables.hash_of(path)}
+    return {'certificates': of.total, 'ranges': of.ranges,
+            'by registry': {f'{code:02}': count for (code,), count
+                            in sorted(of.by_registry.items())},
+            'SHA-256': tables.hash_of(path)}
 
 
 def write(folder: Path, settings: Settings, comparison: Comparison, key: Key) -> None:
