@@ -245,12 +245,15 @@ def key(tmp_path: Path) -> Key:
 def test_a_protocol_is_verified_with_its_files(rehearsed: Path, tmp_path: Path, key: Key) -> None:
     place = copied(rehearsed, tmp_path)
     read = settings.read(place)
-    found = compare(place, read, place / 'rehearsal/registry.db')
-    protocol.write(place, read, found, key)
+    registry = place / 'rehearsal/registry.db'
+    found = compare(place, read, registry)
+    protocol.write(place, read, found, registry, key)
     assert protocol.faults(place, None) == [] == protocol.faults(place, key.public)
     said = json.loads((place / protocol.NAME).read_text(encoding='utf-8'))
     assert said['differences'] == 0
     assert said['sums of the tables'] == said['sums of the registry']
+    assert said['copy of the registry'] == {
+        'path': str(registry), 'SHA-256': hashlib.sha256(registry.read_bytes()).hexdigest()}
     with (place / 'tables/stock.csv').open('a', encoding='utf-8') as file:
         file.write('\n')
     assert protocol.faults(place, key.public) == [
@@ -264,7 +267,8 @@ def test_a_protocol_is_verified_with_its_files(rehearsed: Path, tmp_path: Path, 
 def test_a_protocol_of_another_key_is_refused(rehearsed: Path, tmp_path: Path, key: Key) -> None:
     place = copied(rehearsed, tmp_path)
     read = settings.read(place)
-    protocol.write(place, read, compare(place, read, place / 'rehearsal/registry.db'), key)
+    registry = place / 'rehearsal/registry.db'
+    protocol.write(place, read, compare(place, read, registry), registry, key)
     other = Ed25519PrivateKey.generate()
     (tmp_path / 'other.key').write_bytes(other.private_bytes(
         Encoding.PEM, PrivateFormat.PKCS8, NoEncryption()))

@@ -182,7 +182,8 @@ def test_the_forms_of_old_numbers(tmp_path: Path) -> None:
     assert assigned.range(one, one).first is None
     with pytest.raises(NoRange):
         assigned.range(one, other)
-    for text in ('07000000000007', '8000000000007', '08000000000000', '0800000000000७', ''):
+    assert own.range('07000000000007', '07000000000007').other == 7
+    for text in ('00000000000007', '8000000000007', '08000000000000', '0800000000000७', ''):
         with pytest.raises(NoRange):
             own.range(text, text)
 

@@ -120,6 +120,11 @@ def test_what_is_waived_stays_behind_in_a_list_with_its_counts(folder: Path) -> 
     assert [(row['table'], row['row'], row['registry'], row['certificates']) for row in rows] == [
         ('stock', '97', '9', '10'), ('stock', '98', '9', '11')]
     assert (rows[0]['first'], rows[0]['account']) == ('09000000000001', 'A-0')
+    assert [left.text for left in enquiry.left_out(folder, read, '09000000000010')] == [
+        'a certificate of 09000000000001 to 09000000000010, account A-0, stock.csv, row 97, was '
+        'left out: other-registry']
+    assert enquiry.left_out(folder, read, '09000000000011') == []
+    assert enquiry.by_old_number(folder, read, '09000000000010') == []
     told = 'left out: 21 certificates in 2 rows of the stock (see left-out.csv)'
     assert told in report_of(folder) and '  other-registry: 21 certificates in 2 rows' in told_of(
         folder, read)
@@ -138,11 +143,12 @@ def told_of(folder: Path, read: settings.Settings) -> str:
     """What the comparison tells of the rows that stay behind; the protocol is written too."""
     plan.write(folder, read)
     assert differences_of(folder, read) == []
-    found = compare(folder, read, folder / 'rehearsal/registry.db')
+    registry = folder / 'rehearsal/registry.db'
+    found = compare(folder, read, registry)
     path = folder / 'own.key'
     path.write_bytes(Ed25519PrivateKey.generate().private_bytes(
         Encoding.PEM, PrivateFormat.PKCS8, NoEncryption()))
-    protocol.write(folder, read, found, Key(path))
+    protocol.write(folder, read, found, registry, Key(path))
     return '\n'.join(found.left_out)
 
 

@@ -13,8 +13,8 @@ usage: goo-migrate settings
        goo-migrate find FOLDER NUMBER [--new]
 
 FOLDER has the settings, migration.toml, and the old registry's tables in tables/; all that is
-written comes there too. COPY is a folder of /var/backups/goo, by its name or by its path, `last` for
-the newest one, or a database. /usr/share/doc/goo/MIGRATING.md has the weekend hour by hour.
+written comes there too. COPY is a folder of /var/backups/goo, by its name or by its path, `last`
+for the newest one, or a database. /usr/share/doc/goo/MIGRATING.md has the weekend hour by hour.
 
 Exit status 0 where all is well, 1 where a fault or a difference was found, 2 for a usage error, 3
 where something can't be read or was not answered.
@@ -133,8 +133,9 @@ def do_compare(given: argparse.Namespace, settings: Settings) -> int:
 
 def do_protocol(given: argparse.Namespace, settings: Settings) -> int:
     key = Key(given.key)
-    found = compare(given.folder, settings, database_of(given.copy))
-    protocol.write(given.folder, settings, found, key)
+    copy = database_of(given.copy)
+    found = compare(given.folder, settings, copy)
+    protocol.write(given.folder, settings, found, copy, key)
     print(f'{given.folder / protocol.NAME}, signed in {given.folder / protocol.SIGNATURE}')
     return tell_comparison(given.folder, found)
 
@@ -167,7 +168,8 @@ def do_close(given: argparse.Namespace, settings: Settings) -> int:
 def do_find(given: argparse.Namespace, settings: Settings) -> int:
     found = (enquiry.by_new_number(given.folder, given.number) if given.new
              else enquiry.by_old_number(given.folder, settings, given.number))
-    print('\n'.join(of.text for of in found)
+    left = [] if given.new else enquiry.left_out(given.folder, settings, given.number)
+    print('\n'.join(of.text for of in [*found, *left])
           or f'no certificate with the number {given.number} came over')
     return GOOD if found else FOUND
 

@@ -1,4 +1,7 @@
-"""Finds a certificate by its number in the old registry, and by its new number."""
+"""Finds a certificate by its number in the old registry, and by its new number.
+
+A certificate that was left out is found by its old number, with the reason.
+"""
 import sqlite3
 from dataclasses import dataclass
 from pathlib import Path
@@ -13,6 +16,12 @@ COLUMNS = ('s.old_first, s.old_last, s.counted, s.count, s.first, s.device, s.fi
            's.last_day, a.number, a.old, h.code, h.name')
 FROM = ('FROM kept_stock AS s JOIN kept_account AS a ON a.old = s.account '
         'JOIN kept_holder AS h ON h.old = a.holder')
+LEFT_OUT = '''
+SELECT s.row, s.old_first, s.old_last, s.account, o.why
+FROM left_out AS o JOIN stock AS s ON s.row = o.row
+WHERE o.source = 'stock' AND s.series = ? AND ? BETWEEN s.counted AND s.counted + s.count - 1
+ORDER BY s.row
+'''
 
 
 @dataclass(frozen=True)
@@ -37,6 +46,29 @@ class Found:
                 f'account {self.old_account}\n'
                 f'  came into account {self.account} of {self.holder} ({self.name})\n'
                 f'  device {self.device}, {self.first_day} to {self.last_day}')
+
+
+@dataclass(frozen=True)
+class LeftOut:
+    """A row of the old stock that was left out: its range, its account, and why."""
+
+    row: int
+    old_first: str
+    old_last: str
+    account: str
+    why: str
+
+    @property
+    def text(self) -> str:
+        return (f'a certificate of {self.old_first} to {self.old_last}, account {self.account}, '
+                f'stock.csv, row {self.row}, was left out: {self.why}')
+
+
+def left_out(folder: Path, settings: Settings, text: str) -> list[LeftOut]:
+    """The rows with an old number that were left out."""
+    with work.opened(folder) as database:
+        return [LeftOut(*row) for one in Reader(settings).candidates(text)
+                for row in database.execute(LEFT_OUT, (one.series, one.counted))]
 
 
 def by_old_number(folder: Path, settings: Settings, text: str) -> list[Found]:

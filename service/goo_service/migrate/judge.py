@@ -221,7 +221,7 @@ class Judge:
                                     f'no row has account {given["account"]!r}'))
         faults += lots.row_faults(row, days, self.settings)
         range_ = self.range(row, faults)
-        if not {'registry', 'own-registry'} & {fault.kind for fault in faults}:
+        if 'registry' not in {fault.kind for fault in faults}:
             faults += self.lot_faults(row, range_.other if range_ else None, days['first_day'])
         if range_:
             self.keep('stock', row.number, range_.series, given['first'], given['last'],
@@ -250,6 +250,8 @@ class Judge:
             if first_day and first_day < begun:
                 yield row.fault('before-commissioning', 'first_day',
                                 f'the device was commissioned on {begun}')
+        elif other == self.settings.new_code:
+            yield row.fault('own-registry', 'first', f'it is of registry {other:02}, the new one')
         elif (other, device, first_day) not in self.known.lots and 'lots' not in self.unread:
             yield row.fault('other-registry', 'first', f'it is of registry {other:02}, and no row '
                             f'of lots.csv has device {device!r} from {first_day or "that day"}')

@@ -53,7 +53,6 @@ class Reader:
 
     def __init__(self, settings: Settings) -> None:
         self.form, self.code = settings.numbers, settings.old_code
-        self.new_code = settings.new_code
         own = f'{settings.old_code:02}([0-9]{{12}})'
         self.pattern = re.compile(own) if self.form == 'own' else pattern_of(settings)
 
@@ -87,9 +86,6 @@ class Reader:
         if not FOURTEEN.fullmatch(text) or int(text[:2]) != registry:
             raise NoRange('registry', f'{text[:40]!r} is no number of registry {registry:02}: '
                           '14 digits with its code in front')
-        if registry == self.new_code:
-            raise NoRange('own-registry',
-                          f'{text} is of registry {registry:02}, the new one itself')
         return Certificate(f'{registry:02}', int(text[2:]), registry)
 
     def own(self, text: str) -> Certificate:

@@ -1,8 +1,9 @@
 """The protocol of a migration for the auditor: what went in, what was sent, what came out; signed.
 
 protocol.json states hashes of the tables, the settings and the plan, the faults that were waived,
-the sums on both sides, and when it was written. protocol.sig is its Ed25519 signature by the key of
-the issuing body, in base64. Sums and protocol can be made again from the same files.
+what was left out, the copy of the registry, the sums on both sides, and when it was written.
+protocol.sig is its Ed25519 signature by the key of the issuing body, in base64. Sums and protocol
+can be made again from the same files.
 """
 import json
 import time
@@ -28,7 +29,8 @@ NAME, SIGNATURE = 'protocol.json', 'protocol.sig'
 LISTS = (plan.NUMBERS, plan.CARRIED, left_out.NAME)
 
 
-def stated(folder: Path, settings: Settings, comparison: Comparison) -> dict[str, Any]:
+def stated(folder: Path, settings: Settings, comparison: Comparison,
+           copy: Path) -> dict[str, Any]:
     """What the protocol states."""
     current, count = sending.planned(folder)
     with work.opened(folder) as database:
@@ -53,6 +55,7 @@ def stated(folder: Path, settings: Settings, comparison: Comparison) -> dict[str
                                            'rows that can not be read': of.rows - of.read}
                                   for of in stock},
         'carried energy': settings.choice,
+        'copy of the registry': {'path': str(copy.resolve()), 'SHA-256': tables.hash_of(copy)},
         'sums of the tables': sums(folder / STATED, comparison.stated),
         'sums of the registry': sums(folder / HELD, comparison.held),
         'differences': comparison.count,
@@ -69,9 +72,11 @@ def sums(path: Path, of: Sums) -> dict[str, Any]:
             'SHA-256': tables.hash_of(path)}
 
 
-def write(folder: Path, settings: Settings, comparison: Comparison, key: Key) -> None:
-    """Writes the protocol of a comparison, and its signature."""
-    text = json.dumps(stated(folder, settings, comparison), indent=2, ensure_ascii=False) + '\n'
+def write(folder: Path, settings: Settings, comparison: Comparison, copy: Path,
+          key: Key) -> None:
+    """Writes the protocol of a comparison with a copy of the registry, and its signature."""
+    text = json.dumps(stated(folder, settings, comparison, copy), indent=2,
+                      ensure_ascii=False) + '\n'
     write_whole(folder / NAME, text)
     write_whole(folder / SIGNATURE, f'{key.signature(text).strip()} {key.public}\n')
 
