@@ -227,8 +227,8 @@ def test_killed_between_the_mailers_yes_and_the_row(own_post: Post, mailer: Mail
     assert reached.wait(60)
     own_post.kill()
     own_post.start()
-    comes(lambda: len(mailer.came) == 2)
-    assert own_post.count('sent IS NULL') == 1, 'the try of before is forgotten'
+    comes(lambda: own_post.count('sent IS NOT NULL') == 1)
+    assert len(set(mailer.ids)) == 2, 'the try of before is forgotten'
     own_post.hurry()
     comes(lambda: len(mailer.came) == 3 and all_sent(own_post))
     first, _, again = mailer.ids
