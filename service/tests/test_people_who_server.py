@@ -67,8 +67,8 @@ def test_a_file_that_is_not_there_is_told_until_it_is(tmp_path: Path) -> None:
         assert ask(of, Cookie=f'__Host-goo={stage.sign_in()}').status == 204
 
 
-def test_over_one_connection_a_change_holds_from_the_next_question_on(stage: Stage,
-                                                                     served: Served) -> None:
+def test_a_change_holds_from_the_next_question_of_a_connection_on(stage: Stage,
+                                                                  served: Served) -> None:
     fields = {'Authorization': f'Bearer {make_token(stage, stage.make_user().id)}',
               'GOO-Method': 'GET'}
     with contextlib.closing(Connection(str(served.listen), 20)) as connection:
