@@ -305,7 +305,7 @@ class House:
     def add_of_people(self, name: str) -> None:
         """A part of goo-people at its socket."""
         path = self.folder / 'people' / f'{unit_of(name)}.sock'
-        listen = ['--listen', str(path)] if name == 'gate' else ['--bind', f'unix:{path}']
+        listen = ['--bind', f'unix:{path}'] if name == 'people' else ['--listen', str(path)]
         self.add(name, lambda: [*self.unit(f'goo-people-{unit_of(name)}.service'), *listen],
                  lambda _: client.is_open(path),
                  PYTHONPATH=str(self.service),
