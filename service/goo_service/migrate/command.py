@@ -168,9 +168,10 @@ def do_close(given: argparse.Namespace, settings: Settings) -> int:
 def do_find(given: argparse.Namespace, settings: Settings) -> int:
     found = (enquiry.by_new_number(given.folder, given.number) if given.new
              else enquiry.by_old_number(given.folder, settings, given.number))
-    left = [] if given.new else enquiry.left_out(given.folder, settings, given.number)
-    print('\n'.join(of.text for of in [*found, *left])
-          or f'no certificate with the number {given.number} came over')
+    told = [of.text for of in found]
+    if not given.new:
+        told += (of.text for of in enquiry.left_out(given.folder, settings, given.number))
+    print('\n'.join(told) or f'no certificate with the number {given.number} came over')
     return GOOD if found else FOUND
 
 
