@@ -210,7 +210,7 @@ class House(Calls):
         """A part of goo-people at its socket."""
         own = OF_PEOPLE[name]
         path = self.folder / 'people' / f'{own}.sock'
-        listen = ['--listen', str(path)] if name == 'gate' else ['--bind', f'unix:{path}']
+        listen = ['--bind', f'unix:{path}'] if name == 'people' else ['--listen', str(path)]
         self.add(name, lambda: [*self.unit(f'goo-people-{own}.service'), *listen],
                  lambda _: client.is_open(path),
                  PYTHONPATH=str(self.service),

@@ -93,7 +93,7 @@ def test_a_damaged_file_is_put_back_from_a_copy(stage: Stage, tmp_path: Path) ->
     aside = list(stage.path.parent.glob('people.db.before-*'))
     assert len(aside) == 1 and aside[0].read_bytes().startswith(b'damaged')
     fresh = Stage(stage.path)
-    assert fresh.ask(session=session).status[:3] == '401'
+    assert fresh.ask(session=session).status == 401
     fresh.sign_in()
 
 
