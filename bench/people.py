@@ -57,11 +57,11 @@ def row(name, what, found):
 
 def alone(house, name, shown, count):
     """The question in this process: the smallest of ten runs."""
-    ask, best = who.application(house.people.path), 1e9
+    door, best = who.Door(house.people.path), 1e9
     for _ in range(10):
         begun = time.process_time()
         for _ in range(count // 10):
-            list(ask({**shown, 'HTTP_GOO_METHOD': 'GET'}, lambda *_: None))
+            door.answer(who.Asked.of({**shown, 'GOO-Method': 'GET'}))
         best = min(best, (time.process_time() - begun) / (count // 10))
     print(f'the question alone, in one process, by a {name}: {1000 * best:.3f} ms of processor time')
 
@@ -72,8 +72,8 @@ def main():
     with House(people=True, rate=10_000) as house:
         session, token = house.people.sign_in('office').cookie, house.users['office']
         ways = {'session': f'Cookie: __Host-goo={session}', 'token': f'Authorization: Bearer {token}'}
-        alone(house, 'session', {'HTTP_COOKIE': f'__Host-goo={session}'}, count)
-        alone(house, 'token', {'HTTP_AUTHORIZATION': f'Bearer {token}'}, count)
+        alone(house, 'session', {'Cookie': f'__Host-goo={session}'}, count)
+        alone(house, 'token', {'Authorization': f'Bearer {token}'}, count)
         print('\n| Signed in by | Asks for | a second | goo-people-who, ms a request | nginx, ms | ab, ms |\n|---|---|---|---|---|---|')
         for name, field in ways.items():
             for what, path in PATHS.items():

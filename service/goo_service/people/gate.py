@@ -10,8 +10,6 @@ import asyncio
 import contextlib
 import os
 import re
-import signal
-import socket
 import sqlite3
 import sys
 from collections.abc import Callable
@@ -27,7 +25,6 @@ from typing import TypeVar
 from aiohttp import web
 
 from goo_service.log.bounds import BODY
-from goo_service.log.door import is_opened_by_systemd
 from goo_service.people import asked
 from goo_service.people import log_line
 from goo_service.people import outcomes
@@ -38,6 +35,7 @@ from goo_service.people.judge import Refused
 from goo_service.people.judge import Waiting
 from goo_service.people.sender import Sender
 from goo_service.people.sender import time_of
+from goo_service.people.serving import served
 from goo_service.people.store import changing
 from goo_service.people.token_use import Fate
 from goo_service.people.token_use import Reserved
@@ -56,7 +54,7 @@ TOLD = {
     503: 'this cannot be answered now: send the same again, under the same key',
     504: 'no answer came in time: send the same again, under the same key'}
 """As the front door words it."""
-RETRY, BACKLOG = 10, 512
+RETRY = 10
 NUMBER = re.compile(r'/waiting/([1-9][0-9]{0,14})')
 """By which goo-people-web has a confirmed request sent. The front door passes on /v1/ alone."""
 T = TypeVar('T')
@@ -213,36 +211,11 @@ def text_of(call: Call) -> bytes:
 
 async def serve(gate: Gate, listen: str) -> None:
     """Serves until the process is told to end; then what is under way is finished."""
-    ended = asyncio.Event()
-    for number in (signal.SIGTERM, signal.SIGINT):
-        asyncio.get_running_loop().add_signal_handler(number, ended.set)
-    runner = web.ServerRunner(
-        web.Server(gate.answer, request_factory=request_of, access_log=None))
-    await runner.setup()
-    await site_of(runner, listen).start()
     rounds = asyncio.get_running_loop().create_task(gate.sender.rounds())
-    print(f'gate: writes come by {listen or "the socket of systemd"}', flush=True)
-    await ended.wait()
-    rounds.cancel()
-    for site in list(runner.sites):
-        await site.stop()
-    if gate.tasks:
-        await asyncio.wait(gate.tasks, timeout=ENDS)
-    await runner.cleanup()
-
-
-def request_of(message: Any, payload: Any, protocol: Any, writer: Any,
-               task: 'asyncio.Task[None]') -> web.BaseRequest:
-    """A request whose body has as many bytes as the log takes."""
-    return web.BaseRequest(message, payload, protocol, writer, task, asyncio.get_running_loop(),
-                           client_max_size=BODY + 1)
-
-
-def site_of(runner: web.ServerRunner, listen: str) -> web.BaseSite:
-    """A site at a path, or at the socket that systemd has opened."""
-    if is_opened_by_systemd():
-        return web.SockSite(runner, socket.socket(fileno=3), backlog=BACKLOG)
-    return web.UnixSite(runner, listen, backlog=BACKLOG)
+    async with served('gate', gate.answer, listen):
+        rounds.cancel()
+        if gate.tasks:
+            await asyncio.wait(gate.tasks, timeout=ENDS)
 
 
 def main() -> int:
