@@ -1,5 +1,3 @@
 pub mod Durable
-pub mod Showing
 pub mod ServerEndings
 pub mod ServesConnections
-pub mod ServesFiles

@@ -1,13 +1,18 @@
 //! The commands `declare`, `statement` and `audit`, over files.
-ghost use Rattle.std.specs.Prelude.{◌≡◌, [], IsTrue};
+ghost use Rattle.std.specs.Prelude.{◌≡◌, [], None, IsTrue};
+ghost use Rattle.std.specs.FinMap.{get};
 ghost use Rattle.std.specs.Io.Buffered.{writer_buffer, writer_contents};
 ghost use Rattle.std.specs.Io.KnownBytes.{Keeps};
+ghost use Rattle.sqlite.specs.Files.{image_of, HoldsDatabase};
+ghost use Rattle.sqlite.specs.Tree.{Trees};
+ghost use Rattle.goo_store_opening.specs.Versions.{state_held};
+ghost use Rattle.goo_files.specs.Texts.{IsStatement, IsAuditText};
+ghost use Rattle.goo_files.specs.Writes.{Began, Wrote};
 ghost use Rattle.goo_cli_ending.specs.Endings.{status_of};
 ghost use Rattle.goo_cli_registry.specs.Closings.{HasSpareLog, IfRefused, IsClean};
 ghost use Rattle.goo_cli_registry.specs.Durable.{IfOpened, IsInFile, IsUnbegun, IsUnopened, MayOpen};
-ghost use Rattle.goo_cli_registry.specs.Adoptions.{FromStart};
+ghost use Rattle.goo_cli_registry.specs.Finds.{Begins, HasState};
 ghost use Rattle.goo_cli_registry.specs.Refusals.{IsTurnedAway};
-ghost use Rattle.goo_cli_files.specs.Showing.{ShowsAudit, ShowsStatement};
 ghost use Rattle.goo_cli_texts.specs.Declaring.{DeclaresRows};
 ghost use Rattle.goo_cli_texts.specs.Endings.{IsOfImport, IsOfText};
 
@@ -24,18 +29,21 @@ use std::alloc::Global;
 use std::io::{BufWriter, Read, Write};
 
 /// Imports the declarations of a CSV file into the registry that files hold, writes the report, and
-/// closes the registry. `progress` tells how far the import is, `line` if the tables are in another
-/// form or of version 1. What is said holds so long as the files returned what was written.
+/// closes the registry. `progress` tells how far the import is, `line` if the registry is of
+/// version 1. What is said holds so long as the files returned what was written, and `db` is the
+/// database that they held.
 ///
 /// - `runs`: what the reader gave, and the first of its rows ([`declare`]), from the state that the
-///   files held (`starts` of [`open_registry`]), which is sound, so that what a registry promises holds
-///   of these rows. The database file alone holds what these rows come to, after a crash too, where the
+///   files held. The database file alone holds what these rows come to, after a crash too, where the
 ///   log could be copied into it; else the next opening finds that, or one row more at most.
+/// - `begins`: what the files held is sound, so that what a registry promises holds of these rows. Where
+///   they hold what a crash left of a registry, it is the state that the crash is said to leave, one
+///   of two at most.
 /// - `words`: it ends as an import does.
 /// - `refused`, `turned_away`: where there is no registry, the word for what the files hold is told, or a
 ///   fault of the store or want of memory; nothing was read or written, and no harm came to what the
-///   files held, after a crash too: but for a registry in another form or of version 1, the same
-///   registry in our form or in version 2 may be found then.
+///   files held, after a crash too: but for a registry of version 1, the same registry in version 2 may
+///   be found then.
 /// - `flushed`: with status 0 nothing is left in the writer's buffer.
 /// - `copied`: a log that is said to be copied into the database file is.
 pub fn declare_in_files<D: Disk + Drop, R: Read, W: Write + Drop, T: Write, E: Write>(
@@ -49,10 +57,12 @@ pub fn declare_in_files<D: Disk + Drop, R: Read, W: Write + Drop, T: Write, E: W
 ) -> (Ending, Left<D>)
     requires log { IsTrue (D.Disk.is_usable files.log) }
     requires db { IsTrue (D.Disk.is_usable files.db) }
-    ensures runs { IsClean result.1 → IfOpened result.1 (FromStart D.Disk files (λ s.
-        DeclaresRows result.0 s (writer_contents W.contents writer.old)
-        (writer_contents W.contents writer.new) (IsInFile result.1) (MayOpen result.1)
-        (R.remaining reader.old) (R.remaining reader.new))) }
+    ensures runs { IsClean result.1 → (db : Trees) → HoldsDatabase (image_of D.Disk files) db
+        → IfOpened result.1 (DeclaresRows result.0 (state_held db)
+        (writer_contents W.contents writer.old) (writer_contents W.contents writer.new)
+        (IsInFile result.1) (MayOpen result.1) (R.remaining reader.old) (R.remaining reader.new)) }
+    ensures begins { IsClean result.1 → (db : Trees) → HoldsDatabase (image_of D.Disk files) db
+        → IfOpened result.1 (Begins db) }
     ensures words { IfOpened result.1 (IsOfImport result.0) }
     ensures refused { IfRefused result.1
         (λ _. IsUnbegun result.0 (writer_contents W.contents writer.old)
@@ -73,14 +83,17 @@ pub fn declare_in_files<D: Disk + Drop, R: Read, W: Write + Drop, T: Write, E: W
 }
 
 /// Writes the statement of an account of the registry that files hold, and closes the registry.
-/// What is said holds so long as the files returned what was written.
+/// What is said holds so long as the files returned what was written, and `db` is the database that
+/// they held.
 ///
-/// - `shows`, `flushed`: status 0 only where the whole statement is written, by the state that the
-///   files held (`starts` of [`open_registry`]), and nothing is left in the writer's buffer.
-/// - `shows`, `silent`: status 1 only where there is no such account, and nothing is written then;
-///   what is written with status 3 is nothing, or a beginning of the statement. Whatever the status,
-///   the registry stays as it was: where the log could be copied, the file alone holds what both
-///   held, and else the next opening finds it, after a crash too, and nothing else.
+/// - `shown`, `flushed`: status 0 only where the whole statement is written, and nothing is left in
+///   the writer's buffer.
+/// - `unknown`, `silent`: status 1 only where there is no such account, and nothing is written
+///   then.
+/// - `begun`: what is written with status 3 is nothing, or a beginning of the statement.
+/// - `kept`: whatever the status, the registry stays as it was: where the log could be copied, the
+///   file alone holds what both held, and else the next opening finds it, after a crash too, and
+///   nothing else.
 /// - `words`: it ends as a text does.
 /// - `refused`, `turned_away`: as for [`declare_in_files`]; nothing is read.
 /// - `copied`: a log that is said to be copied into the database file is.
@@ -94,16 +107,25 @@ pub fn statement_in_files<D: Disk + Drop, W: Write + Drop, E: Write>(
 ) -> (Ending, Left<D>)
     requires log { IsTrue (D.Disk.is_usable files.log) }
     requires db { IsTrue (D.Disk.is_usable files.db) }
-    ensures shows { IsClean result.1 → IfOpened result.1 (FromStart D.Disk files (λ s.
-        ShowsStatement s (writer_contents W.contents writer.old)
-        (writer_contents W.contents writer.new) result.0 result.1 account)) }
+    ensures shown { IsClean result.1 → (db : Trees) → HoldsDatabase (image_of D.Disk files) db
+        → status_of result.0 ≡ 0
+        → Wrote (writer_contents W.contents writer.old) (writer_contents W.contents writer.new)
+        (IsStatement (state_held db) account) }
+    ensures unknown { IsClean result.1 → (db : Trees) → HoldsDatabase (image_of D.Disk files) db
+        → status_of result.0 ≡ 1 → get (state_held db).accounts account ≡ None }
     ensures silent { IsClean result.1 → status_of result.0 ≡ 1
         → Keeps (writer_contents W.contents writer.old) (writer_contents W.contents writer.new) }
+    ensures begun { IsClean result.1 → (db : Trees) → HoldsDatabase (image_of D.Disk files) db
+        → status_of result.0 ≡ 3
+        → Began (writer_contents W.contents writer.old) (writer_contents W.contents writer.new)
+        (IsStatement (state_held db) account) }
     ensures words { IfOpened result.1 (IsOfText result.0) }
     ensures refused { IfRefused result.1
         (λ _. IsUnopened result.0 (writer_contents W.contents writer.old)
         (writer_contents W.contents writer.new)) }
     ensures flushed { status_of result.0 ≡ 0 → writer_buffer writer.new ≡ [] }
+    ensures kept { IsClean result.1 → (db : Trees) → HoldsDatabase (image_of D.Disk files) db
+        → HasState (state_held db) result.1 }
     ensures turned_away { IsClean result.1 → IfRefused result.1 (IsTurnedAway files result.0) }
     ensures copied { HasSpareLog result.1 }
 {
@@ -128,16 +150,23 @@ pub fn audit_in_files<D: Disk + Drop, W: Write + Drop, E: Write>(
 ) -> (Ending, Left<D>)
     requires log { IsTrue (D.Disk.is_usable files.log) }
     requires db { IsTrue (D.Disk.is_usable files.db) }
-    ensures shows { IsClean result.1 → IfOpened result.1 (FromStart D.Disk files (λ s.
-        ShowsAudit s (writer_contents W.contents writer.old)
-        (writer_contents W.contents writer.new) result.0 result.1)) }
+    ensures shown { IsClean result.1 → (db : Trees) → HoldsDatabase (image_of D.Disk files) db
+        → status_of result.0 ≡ 0
+        → Wrote (writer_contents W.contents writer.old) (writer_contents W.contents writer.new)
+        (IsAuditText (state_held db)) }
     ensures silent { IsClean result.1 → status_of result.0 ≡ 1
         → Keeps (writer_contents W.contents writer.old) (writer_contents W.contents writer.new) }
+    ensures begun { IsClean result.1 → (db : Trees) → HoldsDatabase (image_of D.Disk files) db
+        → status_of result.0 ≡ 3
+        → Began (writer_contents W.contents writer.old) (writer_contents W.contents writer.new)
+        (IsAuditText (state_held db)) }
     ensures words { IfOpened result.1 (IsOfText result.0) }
     ensures refused { IfRefused result.1
         (λ _. IsUnopened result.0 (writer_contents W.contents writer.old)
         (writer_contents W.contents writer.new)) }
     ensures flushed { status_of result.0 ≡ 0 → writer_buffer writer.new ≡ [] }
+    ensures kept { IsClean result.1 → (db : Trees) → HoldsDatabase (image_of D.Disk files) db
+        → HasState (state_held db) result.1 }
     ensures turned_away { IsClean result.1 → IfRefused result.1 (IsTurnedAway files result.0) }
     ensures copied { HasSpareLog result.1 }
 {

@@ -1,12 +1,13 @@
 //! What is done with a registry, by the task that the command line names.
 ghost use Rattle.std.specs.Prelude.{◌≡◌, IsTrue};
 ghost use Rattle.std.specs.Io.Buffered.{writer_contents};
+ghost use Rattle.sqlite.specs.Files.{image_of, HoldsDatabase};
+ghost use Rattle.sqlite.specs.Tree.{Trees};
+ghost use Rattle.goo_store_opening.specs.Versions.{state_held};
 ghost use Rattle.goo_cli.specs.Asked.{asked_by};
-ghost use Rattle.goo_cli_registry.specs.Adoptions.{FromStart};
 ghost use Rattle.goo_cli_registry.specs.Closings.{HasSpareLog, IfRefused, IsClean};
-ghost use Rattle.goo_cli_registry.specs.Durable.{IfOpened};
 ghost use Rattle.goo_cli_registry.specs.Refusals.{IsTurnedAway};
-ghost use Rattle.goo_cli_jobs.specs.Works.{asked_for, IsUnworked, IsWorked};
+ghost use Rattle.goo_cli_jobs.specs.Works.{asked_for, IsWorked};
 
 use crate::memory_work::MemoryWork;
 use goo_cli::{Invocation, Opening, Records, Serving};
@@ -84,17 +85,16 @@ pub fn job_of<'a>(task: &Invocation<'a>) -> Job<'a>
 }
 
 /// Does this with the registry that files hold, and closes it. `progress` tells how far an import
-/// is, `line` if the tables are in another form or of version 1. What is said holds so long as the
-/// files returned what was written.
+/// is, `line` if the registry is of version 1. What is said holds so long as the files returned
+/// what was written, and `db` is the database that they held.
 ///
-/// - `worked`: what is done is what was asked for, from the state that the files held: for a statement
-///   the account's, for an audit the audit's text, for lines and for rows what they come to, for
-///   connections what is promised of their requests, what each was sent, and that as many were
-///   accepted as asked for. A statement and an audit leave the registry as it was.
-/// - `refused`, `turned_away`: where there is no registry, the word for what the files hold is told, or a
-///   fault of the store or want of memory; nothing was read or written, and no harm came to what the
-///   files held, after a crash too: but for a registry in another form or of version 1, the same
-///   registry in our form or in version 2 may be found then.
+/// - `worked`: what is done is what was asked for: for a statement the account's, for an audit the
+///   audit's text, for lines and for rows what they come to, for connections what is promised of
+///   their requests, what each was sent, and that as many were accepted as asked for. A statement and an audit leave
+///   the registry as it was.
+/// - `turned_away`: where there is no registry, the word for what the files hold is told, or a fault of
+///   the store or want of memory, and no harm came to what the files held, after a crash too: but for
+///   a registry of version 1, the same registry in version 2 may be found then.
 /// - `copied`: a log that is said to be copied into the database file is.
 pub fn work_in_files<D: Disk + Drop, L: Listener, R: Read, W: Write + Drop, T: Write, E: Write>(
     alloc: Global,
@@ -109,14 +109,10 @@ pub fn work_in_files<D: Disk + Drop, L: Listener, R: Read, W: Write + Drop, T: W
 ) -> (Ending, Left<D>)
     requires log { IsTrue (D.Disk.is_usable files.log) }
     requires db { IsTrue (D.Disk.is_usable files.db) }
-    ensures worked { IsClean result.1 → IfOpened result.1 (FromStart D.Disk files (λ s. IsWorked s
-        (R.remaining reader.old) (R.remaining reader.new)
+    ensures worked { IsClean result.1 → (db : Trees) → HoldsDatabase (image_of D.Disk files) db
+        → IsWorked (state_held db) (R.remaining reader.old) (R.remaining reader.new)
         (writer_contents W.contents writer.old) (writer_contents W.contents writer.new) result.0
-        result.1 (L.clients listener.old) (L.clients listener.new) work.now)) }
-    ensures refused { IfRefused result.1 (λ _. IsUnworked result.0 (R.remaining reader.old)
-        (R.remaining reader.new) (writer_contents W.contents writer.old)
-        (writer_contents W.contents writer.new) (L.clients listener.old)
-        (L.clients listener.new)) }
+        result.1 (L.clients listener.old) (L.clients listener.new) work.now }
     ensures turned_away { IsClean result.1 → IfRefused result.1 (IsTurnedAway files result.0) }
     ensures copied { HasSpareLog result.1 }
 {

@@ -4,7 +4,11 @@ use Rattle.std.specs.Prelude.{⊤}
 use Rattle.sqlite_disk.specs.declared.Disk.{Ghosts}
 use Rattle.sqlite_wal.specs.Reads.{AreClean}
 use Rattle.sqlite.specs.declared.file.Leftover.TheVariants as rest
+use Rattle.sqlite.specs.Tree.{Trees}
 use Rattle.goo_spec.specs.State.{State}
+use Rattle.goo_store_judge.specs.Moments.{OpensAsEither}
+use Rattle.goo_store_opening.specs.Versions.{state_held}
+use Rattle.goo_spec.specs.Sound.{IsSound}
 use Rattle.goo_core_shelf.specs.Desk.{Seen}
 use Rattle.goo_core_shelf.specs.Shelf.{Moment}
 use Rattle.goo_registry.specs.Desks.{seen_of}
@@ -15,7 +19,7 @@ use Rattle.goo_cli_ending.specs.declared.ending.Failure.{Failure}
 use Rattle.goo_cli_ending.specs.declared.ending.Failure.TheVariants as failure
 use Rattle.goo_cli_registry.specs.Closings.{HoldRegistry, HoldState, IfWhole}
 use Rattle.goo_cli_registry.specs.Durable.{FindsOneOf, IfOpened, IsInFile, MayOpen}
-use Rattle.goo_cli_registry.specs.Finds.{FindsRight, IfParts}
+use Rattle.goo_cli_registry.specs.Finds.{Begins, FindsRight, IfParts}
 use Rattle.goo_cli_registry.specs.declared.closing.Left.{Left}
 use Rattle.goo_cli_registry.specs.declared.closing.Left.TheVariants as left
 
@@ -34,16 +38,18 @@ sure_state (ending.Failed failure.NotARegistry) new s is none = is
 sure_state (ending.Failed (failure.Version version)) new s is none = is
 sure_state (ending.Failed failure.Damaged) new s is none = is
 
+-- the state that a shelf was opened with
+pub begun : (db : Trees) (seen : State) → seen ≡ state_held db → IsSound seen → ((s t : State) → OpensAsEither db s t → (seen ≡ s) ⊎ (seen ≡ t)) → Begins db
+begun db seen same sound again = record {
+  sound = subst (λ (s : State). IsSound s) same sound;
+  again = λ s t either. subst (λ (u : State). (u ≡ s) ⊎ (u ≡ t)) same (again s t either);
+}
+
 module _ {D : Type 0} {g : Ghosts D} where
   pub opened : (rest : Left D g) (Holds : Type 0) → Holds → IfOpened rest Holds
   opened (left.Whole files) Holds holds = holds
   opened (left.Refused rest) Holds holds = tt
   opened (left.Parts rest) Holds holds = holds
-
-  pub if_opened : (rest : Left D g) (Holds Has : Type 0) → (Holds → Has) → IfOpened rest Holds → IfOpened rest Has
-  if_opened (left.Whole files) Holds Has so holds = so holds
-  if_opened (left.Refused rest) Holds Has so holds = tt
-  if_opened (left.Parts rest) Holds Has so holds = so holds
 
   -- what was copied into the database file has no defect
   pub in_file : (of : Left D g) (new : Moment) (t : State) → (new.defects ≡ 0 → new.state ≡ t) → IfWhole of (λ files. HoldState g files new.state) → IfWhole of (λ files. AreClean g files.log files.db → new.defects ≡ 0) → IsInFile of t

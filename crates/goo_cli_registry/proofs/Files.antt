@@ -27,7 +27,7 @@ use Rattle.goo_tables_rows.specs.Stands.{defects, AreOurs, Holds, HoldsOurs}
 use Rattle.goo_spec.specs.Created.{created}
 use Rattle.goo_spec_tables.specs.Kept.{AreKept}
 use Rattle.goo_store.proofs.Created.{begun_kept, begun_state}
-use Rattle.goo_store_opening.proofs.HeldLemmas.{held_first}
+use Rattle.goo_store_opening.proofs.HeldLemmas.{held_first, version_first}
 use Rattle.goo_store_opening.specs.FirstTables.{HoldsRenewed}
 use Rattle.goo_store_opening.specs.Versions.{state_held}
 use Rattle.goo_spec_tables.proofs.RenewedLemmas.{renewed_state}
@@ -51,7 +51,7 @@ use Rattle.goo_types.specs.declared.fault.Fault.TheVariants as desk
 use Rattle.goo_cli_ending.specs.Endings.{IsOfLines}
 use Rattle.goo_cli_registry.specs.Openings.{ending_of_opening, failure_of_opening, IsBlamed, IsFault, IsOfOpening, IsRun}
 use Rattle.goo_cli_registry.specs.Refusals.{TellsWhy}
-use Rattle.goo_cli_registry.specs.Closings.{HoldRegistry, HoldState, IfRefused, IfWhole, IsClean, IsKept, LeavesOr, LeavesRegistry, SparesOrMakes}
+use Rattle.goo_cli_registry.specs.Closings.{HoldRegistry, HoldState, IfRefused, IfWhole, IsClean, IsKept, IsThere, LeavesOr, LeavesRegistry, SparesOrMakes, WasRenewed}
 use Rattle.goo_cli_registry.specs.declared.closing.Left.{Left}
 use Rattle.goo_cli_registry.specs.declared.closing.Left.TheVariants as left
 
@@ -187,6 +187,17 @@ module _ {D : Type 0} {g : Ghosts D} (files : Files D) where
       → ((db : Trees) → recovers it db → recovers conn.store db) → LeavesFiles files (rest.Store it)
   leaves_store stays conn live finds it same = λ found may. found_as stays conn live finds found (same found may)
 
+  -- what an opening that failed leaves: what it found, or that registry of version 1 renewed
+  pub leaves_registry : SeenMayStay g → (conn : Held (FileStore D g)) → IsTrue (file_state conn).is_open → (file_state conn).now ≡ (file_state conn).committed → Finds files conn → (it : FileStore D g)
+      → ((db : Trees) → recovers it db → recovers conn.store db ⊎ HoldsRenewed (file_state conn).now db) → LeavesRegistry files (rest.Store it)
+  leaves_registry stays conn live settled finds it same = λ found may. go found (same found may)
+    where
+      go : (found : Trees) → recovers conn.store found ⊎ HoldsRenewed (file_state conn).now found → IsThere g files found ⊎ WasRenewed g files found
+      go found (inl before) = inl (found_as stays conn live finds found before)
+      go found (inr holds) =
+          let it = subst (λ (d : Database). HoldsRenewed d found) settled holds in
+          inr (record { db = (file_state conn).committed.trees; there = (finds.reads, finds.holds); first = version_first (file_state conn).committed it.0 it.1 it.2; opens = opens_renewed (file_state conn).committed found it })
+
   pub leaves_or_made : SeenMayStay g → (conn : Held (FileStore D g)) → IsTrue (file_state conn).is_open → Finds files conn → (s : registry.State) → (it : FileStore D g)
       → ((db : Trees) → recovers it db → recovers conn.store db ⊎ OpensAs db (Some s)) → LeavesOr files s (rest.Store it)
   leaves_or_made stays conn live finds s it same = λ found may. go found (same found may)
@@ -199,7 +210,7 @@ module _ {D : Type 0} {g : Ghosts D} (files : Files D) where
   pub leaves_same : (left : Leftover D g) → LeavesFiles files left → LeavesRegistry files left
   leaves_same (rest.Files now) leaves = leaves
   leaves_same (rest.Unopened now) leaves = leaves
-  leaves_same (rest.Store now) leaves = λ found may. inl (inl (leaves found may))
+  leaves_same (rest.Store now) leaves = λ found may. inl (leaves found may)
 
   pub leaves_or : (s : registry.State) (left : Leftover D g) → LeavesFiles files left → LeavesOr files s left
   leaves_or s (rest.Files now) leaves = leaves

@@ -1,4 +1,3 @@
 pub mod Files
-pub mod Taken
 pub mod DurableLemmas
 pub mod Finding

@@ -16,7 +16,6 @@ use Rattle.goo_tables_rows.specs.Rows.{tables_of}
 use Rattle.goo_store_judge.specs.Moments.{OpensAs}
 use Rattle.goo_store_opening.specs.Versions.{state_held}
 use Rattle.goo_cli_disk.specs.Spare.{NeedNoLog}
-use Rattle.goo_cli_registry.specs.Adoptions.{Stood}
 use Rattle.goo_cli_registry.specs.declared.closing.Left.{Left}
 use Rattle.goo_cli_registry.specs.declared.closing.Left.TheVariants as left
 
@@ -87,10 +86,14 @@ module _ {D : Type 0} {g : Ghosts D} where
   IsKept s (left.Refused rest) = ⊥
   IsKept s (left.Parts rest) = IsFound s rest
 
--- a registry of version 1 is what a command finds in these files, and this is the same one in version 2
+-- what an opening of these files finds
+abbrev pub IsThere : {D : Type 0} → Ghosts D → Files D → Trees → Type 0
+IsThere g files found = AreFound g files found × ((db : Trees) → HoldsDatabase (image_of g files) db → found ≡ db)
+
+-- a registry of version 1 is what these files held, and this is the same one in version 2
 pub record WasRenewed {D : Type 0} (g : Ghosts D) (files : Files D) (found : Trees) : Type 0 where
   pub db : Trees
-  pub there : Stood g files db
+  pub there : IsThere g files db
   pub first : (tables_of db).meta.version ≡ 1
   pub opens : OpensAs found (Some (state_held db))
 
@@ -107,11 +110,11 @@ module _ {D : Type 0} {g : Ghosts D} (files : Files D) where
   LeavesOr s (rest.Unopened now) = LeavesFiles {g = g} files (rest.Unopened now)
   LeavesOr s (rest.Store now) = (found : Trees) → recovers now found → (AreFound g files found × ((db : Trees) → HoldsDatabase (image_of g files) db → found ≡ db)) ⊎ OpensAs found (Some s)
 
-  -- the next opening finds what this one would have found, or what became of it, or that registry of version 1 in version 2
+  -- the next opening finds what this one would have found, or that registry of version 1 in version 2
   abbrev pub LeavesRegistry : Leftover D g → Type 0
   LeavesRegistry (rest.Files now) = LeavesFiles {g = g} files (rest.Files now)
   LeavesRegistry (rest.Unopened now) = LeavesFiles {g = g} files (rest.Unopened now)
-  LeavesRegistry (rest.Store now) = (found : Trees) → recovers now found → Stood g files found ⊎ WasRenewed g files found
+  LeavesRegistry (rest.Store now) = (found : Trees) → recovers now found → IsThere g files found ⊎ WasRenewed g files found
 
   -- no harm came to what these files held, or a registry of this state took its place
   abbrev pub SparesOrMakes : State → Left D g → Type 0

@@ -1,5 +1,3 @@
-pub mod Adoptions
-pub mod Takings
 pub mod Durable
 pub mod Openings
 pub mod Closings

@@ -1,9 +1,9 @@
 -- Why files are not opened as a registry, or why none is made in them.
-use Rattle.std.specs.Prelude.{◌≡◌, ◌≢◌, ◌⊎◌}
+use Rattle.std.specs.Prelude.{◌≡◌, ◌≢◌, ◌⊎◌, None}
 use Rattle.sqlite_disk.specs.declared.Disk.{Ghosts}
 use Rattle.sqlite_disk.specs.declared.Files.{Files}
 use Rattle.sqlite_store.specs.declared.store.FileStore.{FileStore}
-use Rattle.sqlite.specs.Files.{file_state}
+use Rattle.sqlite.specs.Files.{file_state, Finds, IsOpened}
 use Rattle.sqlite.specs.Held.{Held}
 use Rattle.sqlite.specs.State.{HasCleanDisk}
 use Rattle.sqlite.specs.declared.file.Leftover.{Leftover}
@@ -17,33 +17,28 @@ use Rattle.goo_cli_ending.specs.declared.ending.Ending.TheVariants as ending
 use Rattle.goo_cli_ending.specs.declared.ending.NotDone.TheVariants as denial
 use Rattle.goo_cli_ending.specs.declared.ending.Failure.{Failure}
 use Rattle.goo_cli_ending.specs.declared.ending.Failure.TheVariants as failure
-use Rattle.goo_store_adoption.specs.Judged.{IsOurs}
-use Rattle.goo_store_adoption.specs.Refused.{TellsFormOf}
-use Rattle.goo_cli_registry.specs.Adoptions.{IsOver, Took}
 use Rattle.goo_cli_registry.specs.Closings.{LeavesRegistry}
 use Rattle.goo_cli_registry.specs.Openings.{failure_of_opening, IsBlamed}
 use Rattle.goo_cli_registry.specs.declared.closing.Left.{Left}
 use Rattle.goo_cli_registry.specs.declared.closing.Left.TheVariants as left
 
+module _ {D : Type 0} {g : Ghosts D} (files : Files D) where
+  -- a connection that was opened over these files: it shows the database that they hold, or an empty one where they hold nothing
+  pub record IsOver (conn : Held (FileStore D g)) : Type 0 where
+    pub finds : Finds files conn
+    pub opened : IsOpened conn
+    pub unlimited : conn.step_limit ≡ None
+
 module _ {D : Type 0} (g : Ghosts D) (files : Files D) where
-  -- The database of these files, or what became of it, is not opened as a registry, with this word for it: by the tables that it has, their
-  -- version and the rules that they break (`IsNotOpened`), from the connection that was taken to the connection after.
+  -- The database of these files is not opened as a registry, with this word for it: by the tables that it has, their version and the rules
+  -- that they break (`IsNotOpened`), from the connection before to the connection after.
   pub record IsUnfit (fault : OpenFault) : Type 0 where
     pub before : Held (FileStore D g)
-    pub over : IsOver files before
-    pub taken : Held (FileStore D g)
-    pub took : Took before taken
     pub after : Held (FileStore D g)
-    pub clean : HasCleanDisk (file_state after)
-    pub lacking : LacksMeta (file_state taken).now.schema → fault ≡ NotARegistry
-    pub why : IsNotOpened (file_state taken) (file_state after) fault
-
-  -- the tables of these files are in another form than ours, and were not adopted, with this word for them
-  pub record IsUnadopted (fault : OpenFault) : Type 0 where
-    pub before : Held (FileStore D g)
     pub over : IsOver files before
-    pub foreign : IsOurs (file_state before).now.schema → ⊥
-    pub word : TellsFormOf (file_state before).now fault
+    pub clean : HasCleanDisk (file_state after)
+    pub lacking : LacksMeta (file_state before).now.schema → fault ≡ NotARegistry
+    pub why : IsNotOpened (file_state before) (file_state after) fault
 
   -- the database of these files has a table, an index or a view
   abbrev pub IsTaken : Type 0
@@ -58,7 +53,7 @@ module _ {D : Type 0} {g : Ghosts D} (files : Files D) where
   -- database; or want of memory.
   abbrev pub TellsWhy : Leftover D g → Failure → Type 0
   TellsWhy rest told =
-      ((fault : OpenFault) × (told ≡ failure_of_opening fault) × (IsUnfit g files fault ⊎ IsUnadopted g files fault))
+      ((fault : OpenFault) × (told ≡ failure_of_opening fault) × IsUnfit g files fault)
       ⊎ (((told ≡ failure.Store) × IsBlamed files rest) ⊎ (told ≡ failure.Memory))
 
   -- no registry was opened: why is told, and no harm came to what the files held

@@ -1,15 +1,14 @@
 //! A registry opened, over a database or over files.
 ghost use Rattle.std.specs.Prelude.{◌≡◌, ◌≢◌, ◌⊎◌, false, IsTrue, IfOk, IfErr, IsErrAnd, Err};
 ghost use Rattle.sqlite.specs.Files.{file_state, image_of, Finds, HoldsDatabase, IsCleanLeft};
-ghost use Rattle.sqlite.specs.Files.{IsOpened, LeavesFiles, over_files};
+ghost use Rattle.sqlite.specs.Files.{IsOpened, LeavesFiles};
 ghost use Rattle.sqlite.specs.Held.{IsNew, state as view};
 ghost use Rattle.sqlite.specs.State.{HasCleanDisk};
 ghost use Rattle.sqlite.specs.Tree.{Trees};
 ghost use Rattle.goo_tables_rows.specs.Columns.{no_schema};
 ghost use Rattle.goo_tables_rows.specs.Met.{IsInKeyOrder};
-ghost use Rattle.goo_store.specs.Opened.{IsOpened as OpensShelf};
 ghost use Rattle.goo_store.specs.Seen.{seen_by};
-ghost use Rattle.goo_store_trees.specs.JustOpened.{IsJustOpened};
+ghost use Rattle.goo_store_opening.specs.Versions.{state_held};
 ghost use Rattle.goo_store_judge.specs.Moments.{OpensAsEither};
 ghost use Rattle.goo_store_open.specs.Found.{IsOutside};
 ghost use Rattle.goo_ranges_rows.specs.Rows.{AreRowsOf};
@@ -17,8 +16,6 @@ ghost use Rattle.goo_core_shelf.specs.Shelf.{IsReady};
 ghost use Rattle.goo_spec.specs.Created.{created};
 ghost use Rattle.goo_spec.specs.Sound.{IsSound};
 ghost use Rattle.goo_spec.specs.State.{State};
-ghost use Rattle.goo_cli_registry.specs.Adoptions.{Starts};
-ghost use Rattle.goo_cli_registry.specs.Takings.{IsOpenedBy, IsRefused, IsRefusedBy, IsUntaken};
 ghost use Rattle.goo_cli_registry.specs.Closings.{LeavesRegistry};
 ghost use Rattle.goo_cli_registry.specs.Openings.{failure_of_opening, IsBlamed, IsFault};
 ghost use Rattle.goo_cli_registry.specs.Openings.{IsOfOpening, MayBegin};
@@ -30,7 +27,6 @@ use goo_cli::Opening;
 use goo_cli_disk::file_fault::word_for;
 use goo_cli_ending::Failure;
 use goo_store::sql_shelf::SqlShelf;
-use goo_store_adoption::taking::take_over;
 use goo_store_open::connecting::open_ordered;
 use goo_store_open::fault::OpenFault;
 use goo_types::fault::Fault;
@@ -144,22 +140,17 @@ pub fn begin<S: Alter>(
     )
 }
 
-/// The registry that files hold, in whatever form its tables are. Those in another form than ours
-/// become ours, and those of version 1 become those of version 2, which `line` tells before. `seed`
-/// is what the salts of a new log begin with.
+/// The registry that files hold. One of version 1 becomes one of version 2, which `line` tells
+/// before. `seed` is what the salts of a new log begin with.
 ///
 /// # Errors
 ///
 /// What is left of the files, with why there is no registry. What they held is unharmed; where a
-/// fault came in the course of an adoption or a renewal, a crash that follows may find the registry
-/// adopted or renewed.
+/// fault came in the course of a renewal, a crash that follows may find the registry renewed.
 ///
-/// `starts`: the state is that of the tables of ours that a command finds in the files: those that
-/// they hold, or what became of tables in another form, each with the same rows by the names of its
-/// columns. `starts`, `never_foreign`: files that hold what a crash left of a registry are opened
-/// with the state that a shelf says a crash finds, one of two at most, or refused for a fault of the
-/// store or want of memory: never as another word on them. `why`: what the files hold decides the
-/// word.
+/// `again`, `never_foreign`: files that hold what a crash left of a registry are opened with the
+/// state that a shelf says a crash finds, one of two at most, or refused for a fault of the store
+/// or want of memory: never as another word on them. `why`: what the files hold decides the word.
 pub fn open_registry<D: Disk + Drop, T: Write>(
     alloc: Global,
     files: Files<D>,
@@ -168,13 +159,20 @@ pub fn open_registry<D: Disk + Drop, T: Write>(
 ) -> Result<SqlShelf<FileStore<D>>, (Failure, Leftover<D>)>
     requires log { IsTrue (D.Disk.is_usable files.log) }
     requires db { IsTrue (D.Disk.is_usable files.db) }
-    ensures starts { IfOk result
-        (λ shelf. (seen_by shelf).defects ≡ 0
-        → Starts D.Disk files (seen_by shelf).state) }
+    ensures state { IfOk result
+        (λ shelf. (db : Trees) → HoldsDatabase (image_of D.Disk files) db
+        → (seen_by shelf).defects ≡ 0
+        → (seen_by shelf).state ≡ state_held db) }
+    ensures sound { IfOk result
+        (λ shelf. (seen_by shelf).defects ≡ 0 → IsSound (seen_by shelf).state) }
     ensures rows_fit { IfOk result
         (λ shelf. (seen_by shelf).defects ≡ 0
         → AreRowsOf (seen_by shelf).state.at (seen_by shelf).rows) }
     ensures ready { IfOk result (λ shelf. IsReady (seen_by shelf)) }
+    ensures again { IfOk result
+        (λ shelf. (db : Trees) → HoldsDatabase (image_of D.Disk files) db → (s t : State)
+        → OpensAsEither db s t → (seen_by shelf).defects ≡ 0
+        → ((seen_by shelf).state ≡ s) ⊎ ((seen_by shelf).state ≡ t)) }
     ensures never_foreign { IfErr result
         (λ e. IsCleanLeft e.1 → (db : Trees) → HoldsDatabase (image_of D.Disk files) db
         → (s t : State) → OpensAsEither db s t → IsFault e.0) }
@@ -183,42 +181,10 @@ pub fn open_registry<D: Disk + Drop, T: Write>(
     ensures unharmed { IfErr result (λ e. IsCleanLeft e.1 → LeavesRegistry files e.1) }
 {
     match open_database(alloc, files, file_options(seed)) {
-        Ok(conn) => open_taken(alloc, conn, line),
+        Ok(conn) => match SqlShelf::open_observed(alloc, conn, line) {
+            Ok(shelf) => Ok(shelf),
+            Err((conn, fault)) => Err((failure_of(fault), Leftover::Store(conn.into_store()))),
+        },
         Err((fault, left)) => Err((Failure::from(fault), left)),
-    }
-}
-
-/// The registry of an open database, in whatever form its tables are.
-fn open_taken<D: Disk + Drop, T: Write>(
-    alloc: Global,
-    conn: Connection<FileStore<D>>,
-    line: &mut RenewalLine<'_, T>,
-) -> Result<SqlShelf<FileStore<D>>, (Failure, Leftover<D>)>
-    requires { IsJustOpened over_files conn }
-    ensures opened { IfOk result (IsOpenedBy conn) }
-    ensures refused { IfErr result
-        (λ e. IsCleanLeft e.1 → IsRefusedBy conn e.0 e.1 ⊎ IsUntaken conn e.0 e.1) }
-    ensures word { IfErr result (λ e. IsOfOpening (Failed e.0)) }
-{
-    match take_over(alloc, conn, line) {
-        Ok(conn) => open_over(alloc, conn, line),
-        Err((store, fault)) => Err((failure_of(fault), Leftover::Store(store))),
-    }
-}
-
-/// The registry of an open database whose tables are ours.
-fn open_over<D: Disk + Drop, T: Write>(
-    alloc: Global,
-    conn: Connection<FileStore<D>>,
-    line: &mut RenewalLine<'_, T>,
-) -> Result<SqlShelf<FileStore<D>>, (Failure, Leftover<D>)>
-    requires { IsJustOpened over_files conn }
-    ensures opened { IfOk result (OpensShelf (file_state conn)) }
-    ensures refused { IfErr result (λ e. IsCleanLeft e.1 → IsRefused conn e.0 e.1) }
-    ensures word { IfErr result (λ e. IsOfOpening (Failed e.0)) }
-{
-    match SqlShelf::open_observed(alloc, conn, line) {
-        Ok(shelf) => Ok(shelf),
-        Err((conn, fault)) => Err((failure_of(fault), Leftover::Store(conn.into_store()))),
     }
 }

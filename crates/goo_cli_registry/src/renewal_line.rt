@@ -1,6 +1,5 @@
 //! What is told of a registry of version 1 before it becomes one of version 2.
 
-use goo_store_adoption::observer::AdoptionObserver;
 use goo_store_opening::renewal::RenewalObserver;
 use sqlite::{Alter, Connection};
 use std::io::Write;
@@ -19,28 +18,14 @@ impl<'a, T: Write> RenewalLine<'a, T> {
     pub fn new(path: &'a str, errors: T) -> RenewalLine<'a, T> {
         RenewalLine { path, errors }
     }
-
-    fn tell(&mut self, words: &str) {
-        for part in ["goo: ", self.path, words] {
-            if self.errors.write_all(part.as_bytes()).is_err() {
-                return;
-            }
-        }
-    }
 }
 
 impl<'a, T: Write> RenewalObserver for RenewalLine<'a, T> {
     fn begins<S: Alter>(&mut self, _conn: &Connection<S>) {
-        self.tell(": version 1 becomes version 2\n")
-    }
-}
-
-impl<'a, T: Write> AdoptionObserver for RenewalLine<'a, T> {
-    fn adopts(&mut self) {
-        self.tell(": its tables are written anew in goo's own form\n")
-    }
-
-    fn drops_statistics(&mut self) {
-        self.tell(": the statistics of ANALYZE are taken away\n")
+        for part in ["goo: ", self.path, ": version 1 becomes version 2\n"] {
+            if self.errors.write_all(part.as_bytes()).is_err() {
+                return;
+            }
+        }
     }
 }

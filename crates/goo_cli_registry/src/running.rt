@@ -1,8 +1,11 @@
 //! The command `run`.
 ghost use Rattle.std.specs.Prelude.{◌≡◌, ◌⊎◌, ◌<◌, [], false, IsTrue, ⊤};
 ghost use Rattle.std.specs.Io.Buffered.{writer_buffer, writer_contents};
+ghost use Rattle.sqlite.specs.Files.{image_of, HoldsDatabase};
 ghost use Rattle.sqlite.specs.Held.{state as view};
+ghost use Rattle.sqlite.specs.Tree.{Trees};
 ghost use Rattle.sqlite_trees.specs.View.{doubt};
+ghost use Rattle.goo_store_opening.specs.Versions.{state_held};
 ghost use Rattle.goo_store_judge.specs.Moments.{IsWell};
 ghost use Rattle.goo_spec.specs.Created.{created};
 ghost use Rattle.goo_spec.specs.Sound.{IsSound};
@@ -10,7 +13,7 @@ ghost use Rattle.goo_registry.specs.Desks.{seen_of};
 ghost use Rattle.goo_cli_ending.specs.Endings.{status_of, IsOfLines, IsToldOf};
 ghost use Rattle.goo_cli_ending.specs.Runs.{HasState, MayFind, RunsInput};
 ghost use Rattle.goo_cli_registry.specs.Durable.{IfOpened, IsInFile, IsUnbegun, MayOpen};
-ghost use Rattle.goo_cli_registry.specs.Adoptions.{FromStart};
+ghost use Rattle.goo_cli_registry.specs.Finds.{Begins};
 ghost use Rattle.goo_cli_registry.specs.Openings.{IsRun};
 ghost use Rattle.goo_cli_registry.specs.Closings.{HasSpareLog, IfRefused, IsClean};
 ghost use Rattle.goo_cli_registry.specs.Refusals.{IsTurnedAway};
@@ -116,20 +119,22 @@ pub fn run_in_memory<R: Read, W: Write + Drop>(
     ending
 }
 
-/// Answers the lines of an input by the registry that files hold, and closes it; `line` tells if its
-/// tables are in another form or of version 1. What is said holds so long as the files returned what
-/// was written.
+/// Answers the lines of an input by the registry that files hold, and closes it; `line` tells if it
+/// is of version 1. What is said holds so long as the files returned what was written, and `db` is
+/// the database that they held.
 ///
 /// - `runs`: what the reader gave, and the first of its lines, all of them with status 0 and 1
-///   ([`answer_input`]), from the state that the files held (`starts` of [`open_registry`]), which is
-///   sound, so that what a registry promises holds of these lines. The database file alone holds what
+///   ([`answer_input`]), from the state that the files held. The database file alone holds what
 ///   these lines come to, after a crash too, where the log could be copied into it; else the next
 ///   opening finds that, or one line more at most.
+/// - `begins`: what the files held is sound, so that what a registry promises holds of these lines. Where
+///   they hold what a crash left of a registry, it is the state that the crash is said to leave, one
+///   of two at most.
 /// - `words`: it ends as a run of lines does.
 /// - `refused`, `turned_away`: where there is no registry to run, the word for what the files hold is
 ///   told, or a fault of the store or want of memory; nothing was read or written, and no harm came to
-///   what the files held, after a crash too: but for a registry in another form or of version 1, the
-///   same registry in our form or in version 2 may be found then.
+///   what the files held, after a crash too: but for a registry of version 1, the same registry in
+///   version 2 may be found then.
 /// - `flushed`: with status 0 and 1 nothing is left in the writer's buffer.
 /// - `copied`: a log that is said to be copied into the database file is.
 pub fn run_in_files<D: Disk + Drop, R: Read, W: Write + Drop, T: Write>(
@@ -142,10 +147,12 @@ pub fn run_in_files<D: Disk + Drop, R: Read, W: Write + Drop, T: Write>(
 ) -> (Ending, Left<D>)
     requires log { IsTrue (D.Disk.is_usable files.log) }
     requires db { IsTrue (D.Disk.is_usable files.db) }
-    ensures runs { IsClean result.1 → IfOpened result.1 (FromStart D.Disk files (λ s.
-        RunsInput result.0 s (writer_contents W.contents writer.old)
-        (writer_contents W.contents writer.new) (IsInFile result.1) (MayOpen result.1)
-        (R.remaining reader.old) (R.remaining reader.new))) }
+    ensures runs { IsClean result.1 → (db : Trees) → HoldsDatabase (image_of D.Disk files) db
+        → IfOpened result.1 (RunsInput result.0 (state_held db)
+        (writer_contents W.contents writer.old) (writer_contents W.contents writer.new)
+        (IsInFile result.1) (MayOpen result.1) (R.remaining reader.old) (R.remaining reader.new)) }
+    ensures begins { IsClean result.1 → (db : Trees) → HoldsDatabase (image_of D.Disk files) db
+        → IfOpened result.1 (Begins db) }
     ensures words { IfOpened result.1 (IsOfLines result.0) }
     ensures refused { IfRefused result.1
         (λ _. IsUnbegun result.0 (writer_contents W.contents writer.old)

@@ -4,8 +4,10 @@ use Rattle.std.specs.Io.KnownBytes.{Appends, Keeps}
 use Rattle.sqlite_disk.specs.declared.Disk.{Ghosts}
 use Rattle.sqlite_disk.specs.declared.Files.{Files}
 use Rattle.sqlite_wal.specs.Recovery.{Image}
-use Rattle.sqlite.specs.Files.{image_of}
+use Rattle.sqlite.specs.Files.{image_of, HoldsDatabase}
+use Rattle.sqlite.specs.Tree.{Trees}
 use Rattle.goo_spec.specs.State.{State}
+use Rattle.goo_store_opening.specs.Versions.{state_held}
 use Rattle.goo_cli_disk.specs.Spare.{StayAs}
 use Rattle.goo_cli_ending.specs.Endings.{status_of}
 use Rattle.goo_cli_ending.specs.declared.ending.Ending.{Ending}
@@ -17,9 +19,7 @@ use Rattle.goo_cli_registry.specs.Openings.{IsOfInit, ready_text}
 use Rattle.goo_cli_registry.specs.Refusals.{IsTurnedAway, TellsMaking}
 use Rattle.goo_cli_registry.specs.declared.closing.Left.{Left}
 use Rattle.goo_desk_listener.specs.Clients.{Clients}
-use Rattle.goo_cli_registry.specs.Adoptions.{FromStart}
-use Rattle.goo_cli_registry.specs.Durable.{IfOpened}
-use Rattle.goo_cli_jobs.specs.Works.{IsUnworked, IsWorked}
+use Rattle.goo_cli_jobs.specs.Works.{IsWorked}
 use Rattle.goo_cli_jobs.specs.declared.work.Work.{Work}
 use Rattle.goo_cli_system.specs.Deeds.{Deed, LetsGo, MayLoseLog}
 use Rattle.goo_cli_system.specs.declared.unopened.Unopened.{Unopened}
@@ -64,6 +64,5 @@ module _ {D : Type 0} (g : Ghosts D) where
 
   -- this was done with the registry that files held, from the state that they held; or none was opened in them
   pub record WorksIn (before after had has : Option (List ℕ)) (told : Ending) (from now : Clients) (work : Work) (files : Files D) (rest : Left D g) : Type 0 where
-    pub worked : IsClean rest → IfOpened rest (FromStart g files (λ s. IsWorked s before after had has told rest from now work))
-    pub refused : IfRefused rest (λ _. IsUnworked told before after had has from now)
+    pub worked : IsClean rest → (db : Trees) → HoldsDatabase (image_of g files) db → IsWorked (state_held db) before after had has told rest from now work
     pub turned_away : IsClean rest → IfRefused rest (IsTurnedAway files told)

@@ -9,6 +9,7 @@ use Rattle.sqlite_wal.specs.Recovery.{Image}
 use Rattle.goo_spec.specs.State.{State}
 use Rattle.goo_store_judge.specs.Holding.{opens_so}
 use Rattle.goo_store_judge.specs.Moments.{OpensAs, OpensAsEither}
+use Rattle.goo_store_opening.specs.Versions.{state_held}
 use Rattle.goo_cli_registry.specs.Closings.{IsClean}
 use Rattle.goo_cli_registry.specs.Durable.{IfOpened, IsInFile, MayOpen}
 use Rattle.goo_cli_registry.specs.declared.closing.Left.{Left}
@@ -41,20 +42,20 @@ module _ {D : Type 0} {g : Ghosts D} where
   found_left (left.Parts (rest.Unopened files)) image s t clean may left = absurd left
   found_left (left.Parts (rest.Store it)) image s t clean may left = ∥∥₁_map left (λ some. let found : Holds image s t = (some.0, some.2, may some.0 some.1) in found)
 
-  -- what is so of the state that a registry begins with is so where one was opened
-  pub opened_so : (two : Left D g) (image : Image) (s t : State) (Runs : State → Type 0) (Goes : Type 0) → ∥ Holds image s t ∥₁ → BeginsOver image two Runs
+  -- what is so of each database that may be there is so where a registry was opened
+  pub opened_so : (two : Left D g) (image : Image) (s t : State) (Runs : State → Type 0) (Goes : Type 0) → ∥ Holds image s t ∥₁ → BeginsOver image two → ((db : Trees) → HoldsDatabase image db → IfOpened two (Runs (state_held db)))
       → ((middle : State) → (middle ≡ s) ⊎ (middle ≡ t) → Runs middle → Goes) → IfOpened two ∥ Goes ∥₁
-  opened_so (left.Whole files) image s t Runs Goes found begins on = ∥∥₁_map found (λ it. on begins.0 (begins.1.again it.0 it.1 s t it.2) begins.2)
-  opened_so (left.Refused rest) image s t Runs Goes found begins on = tt
-  opened_so (left.Parts rest) image s t Runs Goes found begins on = ∥∥₁_map found (λ it. on begins.0 (begins.1.again it.0 it.1 s t it.2) begins.2)
+  opened_so (left.Whole files) image s t Runs Goes found begins runs on = ∥∥₁_map found (λ it. on (state_held it.0) ((begins it.0 it.1).again s t it.2) (runs it.0 it.1))
+  opened_so (left.Refused rest) image s t Runs Goes found begins runs on = tt
+  opened_so (left.Parts rest) image s t Runs Goes found begins runs on = ∥∥₁_map found (λ it. on (state_held it.0) ((begins it.0 it.1).again s t it.2) (runs it.0 it.1))
 
 module _ {D E : Type 0} (g : Ghosts D) (h : Ghosts E) where
   pub two_runs : TwoRuns g h
-  two_runs old one two image told_one told_two had_one has_one had_two has_two before_one after_one before_two after_two clean first are begins =
-      opened_so two image _ _ _ _ (found_left one image _ _ clean first.found are) begins
+  two_runs old one two image told_one told_two had_one has_one had_two has_two before_one after_one before_two after_two clean first are begins runs =
+      opened_so two image _ _ _ _ (found_left one image _ _ clean first.found are) begins runs
       (λ middle is second. lines.goes_on old first.done first.left told_two had_two has_two (IsInFile two) (MayOpen two) before_two after_two middle is second)
 
   pub two_tables : TwoTables g h
-  two_tables old one two image told_one told_two had_one has_one had_two has_two before_one after_one before_two after_two clean first are begins =
-      opened_so two image _ _ _ _ (found_left one image _ _ clean first.found are) begins
+  two_tables old one two image told_one told_two had_one has_one had_two has_two before_one after_one before_two after_two clean first are begins runs =
+      opened_so two image _ _ _ _ (found_left one image _ _ clean first.found are) begins runs
       (λ middle is second. tables.goes_on old first.rows first.upto told_two had_two has_two (IsInFile two) (MayOpen two) before_two after_two middle is second)

@@ -8,11 +8,12 @@ use Rattle.sqlite_store.specs.FileStore.{recovers}
 use Rattle.sqlite_wal.specs.Files.{outcomes}
 use Rattle.sqlite_wal.specs.Recovery.{Image}
 use Rattle.goo_spec.specs.State.{State}
+use Rattle.goo_store_opening.specs.Versions.{state_held}
 use Rattle.goo_cli_ending.specs.Runs.{RunsInput}
 use Rattle.goo_cli_ending.specs.declared.ending.Ending.{Ending}
 use Rattle.goo_cli_registry.specs.Closings.{IsClean}
 use Rattle.goo_cli_registry.specs.Durable.{IfOpened, IsInFile, MayOpen}
-use Rattle.goo_cli_registry.specs.Adoptions.{Begins}
+use Rattle.goo_cli_registry.specs.Finds.{Begins}
 use Rattle.goo_cli_registry.specs.declared.closing.Left.{Left}
 use Rattle.goo_cli_registry.specs.declared.closing.Left.TheVariants as left
 use Rattle.goo_cli_texts.specs.Declaring.{DeclaresRows}
@@ -31,9 +32,9 @@ module _ {D : Type 0} {g : Ghosts D} where
   AreLeft (left.Parts (rest.Unopened files)) image = ⊥
   AreLeft (left.Parts (rest.Store it)) image = ∥ ((db : Trees) × recovers it db × HoldsDatabase image db) ∥₁
 
-  -- a registry is opened in files that hold this, and this is so of the state that it begins with
-  abbrev pub BeginsOver : Image → Left D g → (State → Type 0) → Type 0
-  BeginsOver image of So = IfOpened of ((s : State) × Begins image s × So s)
+  -- a registry is opened over these files, whatever database they hold
+  abbrev pub BeginsOver : Image → Left D g → Type 0
+  BeginsOver image of = (db : Trees) → HoldsDatabase image db → IfOpened of (Begins db)
 
 module _ {D E : Type 0} (g : Ghosts D) (h : Ghosts E) where
   -- two runs of lines, the first of which opened a registry. The premises are clauses of `run_in_files`
@@ -41,7 +42,8 @@ module _ {D E : Type 0} (g : Ghosts D) (h : Ghosts E) where
   TwoRuns =
       (old : State) (one : Left D g) (two : Left E h) (image : Image) (told_one told_two : Ending) (had_one has_one had_two has_two before_one after_one before_two after_two : Option (List ℕ))
       → IsClean one → (first : RunsInput told_one old had_one has_one (IsInFile one) (MayOpen one) before_one after_one)
-      → AreLeft one image → BeginsOver image two (λ s. RunsInput told_two s had_two has_two (IsInFile two) (MayOpen two) before_two after_two)
+      → AreLeft one image → BeginsOver image two
+      → ((db : Trees) → HoldsDatabase image db → IfOpened two (RunsInput told_two (state_held db) had_two has_two (IsInFile two) (MayOpen two) before_two after_two))
       → IfOpened two ∥ lines.GoesOn old first.done first.left told_two had_two has_two (IsInFile two) (MayOpen two) before_two after_two ∥₁
 
   -- the same of two tables. The premises are clauses of `declare_in_files`
@@ -49,5 +51,6 @@ module _ {D E : Type 0} (g : Ghosts D) (h : Ghosts E) where
   TwoTables =
       (old : State) (one : Left D g) (two : Left E h) (image : Image) (told_one told_two : Ending) (had_one has_one had_two has_two before_one after_one before_two after_two : Option (List ℕ))
       → IsClean one → (first : DeclaresRows told_one old had_one has_one (IsInFile one) (MayOpen one) before_one after_one)
-      → AreLeft one image → BeginsOver image two (λ s. DeclaresRows told_two s had_two has_two (IsInFile two) (MayOpen two) before_two after_two)
+      → AreLeft one image → BeginsOver image two
+      → ((db : Trees) → HoldsDatabase image db → IfOpened two (DeclaresRows told_two (state_held db) had_two has_two (IsInFile two) (MayOpen two) before_two after_two))
       → IfOpened two ∥ tables.GoesOn old first.rows first.upto told_two had_two has_two (IsInFile two) (MayOpen two) before_two after_two ∥₁

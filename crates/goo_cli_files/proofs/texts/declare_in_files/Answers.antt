@@ -3,27 +3,34 @@ use Rattle.std.proofs.KnownBytes.{Keeps-refl}
 use Rattle.sqlite.specs.Files.{file_state}
 use Rattle.sqlite_trees.specs.View.{doubt}
 use Rattle.sqlite_wal.specs.Reads.{AreClean}
+use Rattle.goo_store_opening.specs.Versions.{state_held}
 use Rattle.goo_store_judge.specs.Moments.{moment}
 use Rattle.goo_cli_registry.specs.Closings.{HoldState, IfWhole}
 use Rattle.goo_cli_registry.specs.Finds.{FindsRight, IfParts}
-use Rattle.goo_cli_registry.proofs.DurableLemmas.{if_opened, opened}
+use Rattle.goo_cli_registry.proofs.DurableLemmas.{begun, opened}
 use Rattle.goo_cli_files.proofs.DurableLemmas.{rows_from}
 use Rattle.goo_cli_files.proofs.Begun.{not_refused}
 use Rattle.goo_cli_files.proofs.texts.declare_in_files.Goals as goal
 
 pub returns-in-Ok-clause-runs : goal.returns-in-Ok-clause-runs
-returns-in-Ok-clause-runs g c = λ clean.
+returns-in-Ok-clause-runs g c = λ clean db holds.
     let low = subst (λ shelf. doubt (file_state shelf.conn).is_clean ≡ 0) c.into_shelf.ensures (c.close_registry.ensures.clean clean) in
     let before = subst (λ shelf. doubt (file_state shelf.conn).is_clean ≡ 0) c.new-registry.ensures (c.declare-ending.ensures.corruptions_stay low) in
     let none = c.in-Ok.ensures.ready.works before in
-    let begun = (moment (file_state c.in-Ok.shelf.conn) c.in-Ok.shelf.refused).state in
-    let same = subst (λ shelf. (moment (file_state shelf.conn) shelf.refused).state ≡ begun) (sym c.new-registry.ensures) refl in
-    if_opened c.close_registry.result _ _ (λ runs. (begun, c.in-Ok.ensures.starts none, runs))
-    (rows_from c.close_registry.result c.declare-ending.result (moment (file_state c.new-registry.result.shelf.conn) c.new-registry.result.shelf.refused) (moment (file_state c.declare-ending.new.registry.shelf.conn) c.declare-ending.new.registry.shelf.refused) begun _ _ _ _ same
+    let same = subst (λ shelf. (moment (file_state shelf.conn) shelf.refused).state ≡ state_held db) (sym c.new-registry.ensures) (c.in-Ok.ensures.state db holds none) in
+    rows_from c.close_registry.result c.declare-ending.result (moment (file_state c.new-registry.result.shelf.conn) c.new-registry.result.shelf.refused) (moment (file_state c.declare-ending.new.registry.shelf.conn) c.declare-ending.new.registry.shelf.refused) (state_held db) _ _ _ _ same
     (c.declare-ending.ensures.runs low) (subst (λ shelf. (moment (file_state shelf.conn) shelf.refused).defects ≡ 0) (sym c.new-registry.ensures) none)
     (subst (λ shelf. IfWhole c.close_registry.result (λ files. HoldState g.D.Disk files (moment (file_state shelf.conn) shelf.refused).state)) c.into_shelf.ensures c.close_registry.ensures.whole)
     (subst (λ shelf. IfWhole c.close_registry.result (λ files. AreClean g.D.Disk files.log files.db → (moment (file_state shelf.conn) shelf.refused).defects ≡ 0)) c.into_shelf.ensures c.close_registry.ensures.sure)
-    (subst (λ shelf. IfParts c.close_registry.result (FindsRight (moment (file_state shelf.conn) shelf.refused).leaves)) c.into_shelf.ensures c.close_registry.ensures.found))
+    (subst (λ shelf. IfParts c.close_registry.result (FindsRight (moment (file_state shelf.conn) shelf.refused).leaves)) c.into_shelf.ensures c.close_registry.ensures.found)
+
+pub returns-in-Ok-clause-begins : goal.returns-in-Ok-clause-begins
+returns-in-Ok-clause-begins g c = λ clean db holds.
+    let low = subst (λ shelf. doubt (file_state shelf.conn).is_clean ≡ 0) c.into_shelf.ensures (c.close_registry.ensures.clean clean) in
+    let before = subst (λ shelf. doubt (file_state shelf.conn).is_clean ≡ 0) c.new-registry.ensures (c.declare-ending.ensures.corruptions_stay low) in
+    let none = c.in-Ok.ensures.ready.works before in
+    let same = c.in-Ok.ensures.state db holds none in
+    opened c.close_registry.result _ (begun db _ same (c.in-Ok.ensures.sound none) (λ s t either. c.in-Ok.ensures.again db holds s t either none))
 
 pub returns-in-Ok-clause-words : goal.returns-in-Ok-clause-words
 returns-in-Ok-clause-words g c = opened c.close_registry.result _ c.declare-ending.ensures.words

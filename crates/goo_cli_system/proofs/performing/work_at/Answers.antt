@@ -10,7 +10,7 @@ returns-in-Ok g c =
       files = c.in-Ok.opened.files;
       here = c.in-Ok.ensures.at.here;
       rest = c.work_in_files-ending.result.1;
-      comes = record { worked = it.worked; refused = it.refused; turned_away = it.turned_away };
+      comes = record { worked = it.worked; turned_away = it.turned_away };
       last = c.settle-settled.result.files;
       stays = c.settle-settled.ensures.stays;
       is_spare = c.settle-settled.result.is_log_spare;
