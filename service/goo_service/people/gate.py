@@ -32,6 +32,7 @@ from goo_service.people import store
 from goo_service.people.judge import Call
 from goo_service.people.judge import Judge
 from goo_service.people.judge import Refused
+from goo_service.people.judge import Verdict
 from goo_service.people.judge import Waiting
 from goo_service.people.sender import Sender
 from goo_service.people.sender import time_of
@@ -45,6 +46,8 @@ FIELDS = ('GOO-Caller', 'GOO-User', 'GOO-Role', 'GOO-Way', 'GOO-Hold', 'GOO-Addr
 """What the front door sends with a write."""
 COMING, UNDER_WAY = 64 << 20, 512
 """Bytes of bodies, and requests, that are under way at once."""
+SMALL = 16 << 10
+"""Bytes of a body that is read at once, while others wait."""
 ENDS = 30
 """Seconds for what is under way when the service ends."""
 TOLD = {
@@ -90,6 +93,9 @@ class Gate:
     thread: ThreadPoolExecutor = field(default_factory=lambda: ThreadPoolExecutor(1))
     """Reads and changes the file, one after another."""
     db: sqlite3.Connection | None = None
+    """The thread's."""
+    reader: sqlite3.Connection | None = None
+    """The loop's, which changes nothing."""
     coming: int = 0
     under_way: int = 0
     tasks: set[asyncio.Task[Any]] = field(default_factory=set)
@@ -112,6 +118,20 @@ class Gate:
                 self.db = None
                 raise
         return await asyncio.get_running_loop().run_in_executor(self.thread, done)
+
+    def seen(self, call: Call) -> Verdict | None:
+        """The verdict of most writes, without the way to the thread and back: of a small body for
+        which nothing is changed. None where the thread has to look."""
+        if len(call.body) > SMALL:
+            return None
+        try:
+            if self.reader is None:
+                self.reader = store.open_file(self.path)
+                self.reader.execute('PRAGMA busy_timeout = 0')
+            return self.judge.at_once(self.reader, call)
+        except (store.Fault, sqlite3.Error):
+            self.reader = None
+            return None
 
     def keep(self, work: Coroutine[Any, Any, T]) -> 'asyncio.Task[T]':
         """Goes on with work, whoever waits for it."""
@@ -158,7 +178,7 @@ class Gate:
         """What a verdict has for an answer."""
         if call.target not in asked.WRITES:     # the log answers 404, and changes nothing
             return await self.passed(call, None)
-        verdict = await self.of_file(lambda db: self.judge.verdict(db, call))
+        verdict = self.seen(call) or await self.of_file(lambda db: self.judge.verdict(db, call))
         if isinstance(verdict, Refused):
             return shown(verdict)
         if isinstance(verdict, Waiting):
