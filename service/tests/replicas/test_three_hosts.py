@@ -13,6 +13,7 @@ from collections.abc import Iterator
 import client
 import pytest
 from goo_service.log import entries
+from goo_service.log import reader
 from mutations import gsrn
 from replicas.clients import Clients
 from replicas.clients import HEAD
@@ -85,7 +86,7 @@ def test_each_host_has_the_way_of_signing_in_and_the_second_user(cluster: Cluste
     cluster.even(60)
     key = entries.read_key(cluster.folder / 'mac.key')
     for host in cluster.hosts:
-        records = entries.read_archive(host.state / 'archive', 0, key)
+        records = reader.read_archive(host.state / 'archive', 0, key)
         named = [(one.entry.n, one.entry.user, one.entry.way, one.entry.confirmed)
                  for one in records if one.entry.user == 'anna']
         assert named == [(one.entry, 'anna', f'token nightly{number}', 'ben')
