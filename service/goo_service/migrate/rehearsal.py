@@ -1,9 +1,9 @@
 """Carries out a plan in a registry of its own, and tells times and sizes.
 
-The registry is a database in the folder `rehearsal`, made anew each time by the program itself, or a
-copy of one that has accounts already. The program is started once: it judges all tables as it opens them, which takes long where they are
-large. It listens on a port of a network of its own, so that nobody else on the host reaches it.
-Nothing of the running registry is touched.
+The registry is a database in the folder `rehearsal`, made anew each time by the program itself, or
+a copy of one that has accounts already. The program is started once: it judges all tables as it
+opens them, which takes long where they are large. It listens on a port of a network of its own, so
+that nobody else on the host reaches it. Nothing of the running registry is touched.
 """
 import contextlib
 import json
