@@ -22,7 +22,7 @@ from werkzeug.serving import make_server
 
 import client
 from goo_service.people import store
-from house import SERVICE
+from door import SERVICE
 from service_commands import command
 
 PATIENCE = 60.0

@@ -13,11 +13,12 @@ from pathlib import Path
 
 import pytest
 
+from goo_service.log import reader
 from goo_service.log import entries
 from alone import KEY
 from alone import Alone
-from house import SERVICE
-from house import Answer
+from door import SERVICE
+from calls import Answer
 from service_commands import command
 
 HEADER = b'key,device,first_day,last_day,gross_wh,aux_wh\n'
@@ -86,7 +87,7 @@ def test_a_user_s_bytes_of_a_day_are_counted_over_restarts(log: Alone) -> None:
         if sent in (1, 9, 11):
             log.restart()
     lines = (log.state / 'archive').glob('*.jsonl')
-    size = sum(len(line) for path in lines for line, _ in entries.lines(path)
+    size = sum(len(line) for path in lines for line, _ in reader.lines(path)
                if b'"caller":"SUN"' in line)
     assert size <= 16_777_216 < size + 1_334_000
     assert answer.status == 429 and 'SUN' in error_of(answer)

@@ -36,7 +36,7 @@ from goo_service.records.questions import NotFound
 from goo_service.records.questions import Viewer
 from client import comes
 from house import House
-from house import SERVICE
+from door import SERVICE
 from migrating import ASSIGNED
 from migrating import checked
 from migrating import copied

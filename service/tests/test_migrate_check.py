@@ -16,7 +16,7 @@ from goo_service.migrate import settings
 from goo_service.migrate import tables
 from goo_service.migrate.numbers import NoRange
 from goo_service.migrate.numbers import Reader
-from house import SERVICE
+from door import SERVICE
 from migrating import ASSIGNED
 from migrating import checked
 from migrating import names_in

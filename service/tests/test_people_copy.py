@@ -9,7 +9,7 @@ from pathlib import Path
 import pytest
 from goo_service.copies import people
 from goo_service.people import store
-from house import SERVICE
+from door import SERVICE
 from people_stage import Stage
 from service_commands import command
 

@@ -9,7 +9,7 @@ import bcrypt
 import pytest
 from goo_service.people import users
 from goo_service.people.store import now
-from house import SERVICE
+from door import SERVICE
 from people_stage import PASSWORD
 from people_stage import Stage
 from service_commands import command

@@ -327,7 +327,7 @@ def test_an_older_place_beside_a_newer_database(cluster: Cluster, clients: Clien
 def test_an_entry_that_no_registry_decides(cluster: Cluster, clients: Clients) -> None:
     """A majority sets it aside, its client is told, and writes go on. One that a single registry
     fails at is not set aside."""
-    from goo_service.log import entries
+    from goo_service.log import reader
     for host in cluster.hosts:
         host.goo_port, host.words = Weak(host, b'"poison"').port, ['--aside', '3']
         host.restart()
@@ -339,7 +339,7 @@ def test_an_entry_that_no_registry_decides(cluster: Cluster, clients: Clients) -
     for host in cluster.hosts:
         assert open_account(host, 'poison', 60).status == 500
         archived = {one.entry.n: one.outcome.status
-                    for one in entries.read_archive(host.state / 'archive')}
+                    for one in reader.read_archive(host.state / 'archive')}
         assert told.entry and archived[told.entry] == 500
         assert 'ALARM' in host.log('replica')
     for host in cluster.hosts[1:]:
