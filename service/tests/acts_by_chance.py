@@ -13,7 +13,7 @@ from goo_service.rules.commands import ISSUER
 from goo_service.rules.days import months_after
 from goo_service.rules.refusals import Wrong
 from goo_service.rules.registry import Registry
-from house import SERVICE
+from door import SERVICE
 from made_book import page_parameter
 from made_book import routes_of
 from mutations import gsrn

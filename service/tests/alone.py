@@ -18,13 +18,14 @@ from typing import Any
 from typing import Self
 
 import client
+from goo_service.log import reader
 from goo_service.log import entries
 from goo_service.log import position
-from house import SERVICE
+from door import SERVICE
 from service_commands import command
-from house import Answer
-from house import fields_of
-from house import read_answer
+from calls import Answer
+from calls import fields_of
+from calls import read_answer
 from parts import Guard
 from parts import Part
 
@@ -168,7 +169,7 @@ class Alone:
 
     def records(self) -> list[entries.Record]:
         """The entries of requests that were applied, from the archive."""
-        found = list(entries.read_archive(self.state / 'archive', 0, KEY))
+        found = list(reader.read_archive(self.state / 'archive', 0, KEY))
         return [record for record in found if record.entry.method == 'POST']
 
     def said(self) -> str:

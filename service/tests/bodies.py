@@ -10,10 +10,12 @@ from collections.abc import Iterator
 from pathlib import Path
 from typing import Any
 
-import loopback
 from client import answered
 from client import request
-from house import SERVICE
+from door import SERVICE
+from front import Front
+from relays import Relay
+from relays import Wire
 from service_commands import command
 
 DEVICES = {7: '500000000000000012', 8: '500000000000000036', 9: '500000000000000029'}
@@ -43,17 +45,17 @@ class Fates:
 class Body:
     """An issuing body. Of a seed: over connections that fail."""
 
-    def __init__(self, place: loopback.Place, seed: int | None = None) -> None:
-        self.place, self.code, self.keys = place, int(place.code), 0
+    def __init__(self, front: Front, seed: int | None = None) -> None:
+        self.front, self.code, self.keys = front, front.code, 0
         self.numbers: set[int] = set()
         self.chance = random.Random(seed)
         self.fates = Fates(self.chance) if seed is not None else None
-        self.wire: Any = None
-        relay = loopback.Relay(place.goo_port, self.fates) if self.fates else None
-        self.address = (f'http://127.0.0.1:{relay.port}' if relay
-                        else f'unix:{place.dir}/door.sock')
-        self.state, self.config = Path(place.exchange), Path(place.dir) / 'exchange.conf'
-        self.key = Path(place.dir) / 'exchange.key'
+        self.wire: Wire
+        self.address = f'unix:{front.folder}/door.sock'
+        if self.fates:
+            self.address = f'http://127.0.0.1:{Relay(front.registry_port, self.fates).port}'
+        self.state, self.config = front.door.exchange, front.folder / 'exchange.conf'
+        self.key = front.folder / 'exchange.key'
         subprocess.run(['openssl', 'genpkey', '-algorithm', 'ed25519', '-out', self.key],
                        check=True, capture_output=True)
         self.public = subprocess.run(
@@ -69,19 +71,19 @@ class Body:
         Where connections fail, the others' notices are fetched over a wire that breaks.
         """
         user = user or f'registry{self.code:02}'
-        word = Path(self.place.dir) / 'password'
+        word = self.front.folder / 'password'
         word.write_text(f'{password or "pw-" + user}\n')
         sections = [f'[registry]\ncode = {self.code}\nregistry = {self.address}\n'
                     f'key = {self.key}\n']
         for other in others:
-            port = (ports or {}).get(other.code, other.place.port)
+            port = (ports or {}).get(other.code, other.front.port)
             if self.fates:
-                self.wire = loopback.Wire(port, self.chance)
+                self.wire = Wire(port, self.chance)
                 port = self.wire.port
             sections.append(
                 f'[peer {other.code}]\nurl = https://localhost:{port}\nuser = {user}\n'
                 f'key = {other.public}\nseconds = {(seconds or {}).get(other.code, 120)}\n'
-                f'password_file = {word}\nauthority = {other.place.dir}/etc/tls/cert.pem\n')
+                f'password_file = {word}\nauthority = {other.front.folder}/etc/tls/cert.pem\n')
         self.config.write_text('\n'.join(sections))
 
     def exchange(self, *words: object) -> Done:
@@ -109,7 +111,7 @@ class Body:
     # ------------------------------------------------------------- the registry
 
     def ask(self, caller: str, method: str, path: str, body: str = '') -> tuple[int, str]:
-        came = answered(self.place.goo_port, request(method, path, caller, body=body.encode()),
+        came = answered(self.front.registry_port, request(method, path, caller, body=body.encode()),
                         patience=60)
         return int(came.status), came.body.decode()
 
@@ -204,20 +206,17 @@ class Body:
 
     def copy(self) -> Path:
         """A copy of the stopped database, with its log where it left one."""
-        folder = Path(tempfile.mkdtemp(dir=self.place.dir, prefix='copy-'))
-        self.place.stop_registry()
-        for file in Path(self.place.dir).glob('registry.db*'):
-            shutil.copy(file, folder)
-        self.place.start_registry()
+        folder = Path(tempfile.mkdtemp(dir=self.front.folder, prefix='copy-'))
+        self.front.stop('registry')
+        shutil.copytree(self.front.db.parent, folder, dirs_exist_ok=True)
+        self.front.start('registry')
         return folder / 'registry.db'
 
     def back_to(self, copy: Path) -> None:
-        self.place.stop_registry()
-        for file in Path(self.place.dir).glob('registry.db*'):
-            file.unlink()
-        for file in copy.parent.iterdir():
-            shutil.copy(file, self.place.dir)
-        self.place.start_registry()
+        self.front.stop('registry')
+        shutil.rmtree(self.front.db.parent)
+        shutil.copytree(copy.parent, self.front.db.parent)
+        self.front.start('registry')
 
     def go_back(self, copy: Path, generation: int) -> None:
         """What `goo-copies restore` does, as far as the exchange sees it."""
@@ -233,7 +232,7 @@ class Body:
 def registries(*codes: int) -> Iterator[list[Body]]:
     """Registries that know each other and have begun, over connections that hold."""
     with contextlib.ExitStack() as stack:
-        bodies = [Body(stack.enter_context(loopback.Place(rate=500, code=code)))
+        bodies = [Body(stack.enter_context(Front(rate=500, code=code)))
                   for code in codes]
         for body in bodies:
             body.begin(*(code for code in codes if code != body.code))
@@ -279,7 +278,8 @@ def assert_in_one_home(*bodies: Body) -> None:
 
 def assert_recounted(one: Body, other: Body) -> None:
     """Recounted from their requests both are the same, and nothing is under way between them."""
-    done = loopback.recount(one.copy(), '--other', other.copy())
+    done = subprocess.run([*command('goo-copies recount'), one.copy(), '--other', other.copy()],
+                          capture_output=True, text=True, check=False)
     lines = [line for line in done.stdout.splitlines() if 'BROKEN' in line or (
         'has not taken in' in line and not line.endswith(': 0'))]
     assert done.returncode == 0 and not lines, (done, lines)

@@ -17,7 +17,7 @@ import hypothesis
 from house import House
 
 signal.signal(signal.SIGTERM, signal.default_int_handler)
-"""An end from outside ends the houses too: tools/lib/loopback.py would end one test alone by it."""
+"""An end from outside ends the houses too: tools/lib/programs.py would end one test alone by it."""
 hypothesis.settings.register_profile('goo', database=None, deadline=None, print_blob=True)
 hypothesis.settings.load_profile('goo')
 

@@ -122,12 +122,14 @@ class FakeLog:
 
 
 @dataclass
-class GateProcess:
-    """goo-people-gate over a file and a log."""
+class Served:
+    """A part of goo-people as a process, over a file and at a socket."""
 
     file: Path
-    log: Path
     listen: Path
+    module: str = 'goo_service.people.who_server'
+    more: Iterable[object] = ()
+    """Further words of its command line."""
     under: Iterable[str] = ()
     """What starts it."""
 
@@ -140,8 +142,8 @@ class GateProcess:
 
     def start(self) -> None:
         self.listen.unlink(missing_ok=True)
-        words = [*self.under, sys.executable, '-B', '-m', 'goo_service.people.gate', '--file',
-                 str(self.file), '--log', str(self.log), '--listen', str(self.listen)]
+        words = [*self.under, sys.executable, '-B', '-m', self.module, '--file', str(self.file),
+                 '--listen', str(self.listen), *map(str, self.more)]
         self.said = open(self.listen.with_suffix('.said'), 'ab')
         self.process = subprocess.Popen(words, stdout=self.said, stderr=self.said,
                                         env={**os.environ, 'PYTHONPATH': str(SERVICE)})
@@ -161,6 +163,13 @@ class GateProcess:
             self.process.send_signal(number)
         self.process.wait(60)
         self.said.close()
+
+
+class GateProcess(Served):
+    """goo-people-gate over a file and a log."""
+
+    def __init__(self, file: Path, log: Path, listen: Path, under: Iterable[str] = ()) -> None:
+        super().__init__(file, listen, 'goo_service.people.gate', ['--log', log], under)
 
     def post(self, target: str, body: bytes, *, user: str = 'anna', caller: str = 'SUN',
              hold: str = 's1', way: str = 'session', patience: float = 30,

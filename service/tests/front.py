@@ -1,11 +1,7 @@
-"""Requests to a front door for its tests: from an address, as a user, beside others, and what may
-stand behind it in the place of the log or of the records.
-"""
+"""A front door before a registry alone, and what may stand behind it in place of other parts."""
 import contextlib
-import email.message
 import json
 import os
-import pathlib
 import re
 import socket
 import subprocess
@@ -13,10 +9,14 @@ import threading
 from collections.abc import Callable
 from dataclasses import dataclass
 from dataclasses import field
+from pathlib import Path
+from typing import Any
 
 import client
-from loopback import Place
-from service_commands import command
+from calls import Answer
+from calls import read_answer
+from house import House
+from relays import Relay
 
 FAST = 200
 """Requests a second, where no limit is tried."""
@@ -25,33 +25,29 @@ STRANGER = '127.0.0.2'
 VISITOR = '127.0.0.3'
 
 
-@dataclass(frozen=True)
-class Answer:
-    """What came back: the bytes of the body, and the head as it came."""
+class Front(House):
+    """nginx and the registry: relays in the place of the log and of the records keep each head."""
 
-    status: int
-    head: email.message.Message
-    body: bytes
+    always = ('registry',)
 
-    def error(self) -> str:
-        """The sentence of an error in JSON; fails where it is none."""
-        assert self.head['Content-Type'] == 'application/json', (
-            self.head['Content-Type'],
-            self.body[:200],
-        )
-        return str(json.loads(self.body)['error'])
+    def __init__(self, *, rate: int | None = None, **settings: Any) -> None:
+        own: dict[str, Any] = {'rate': rate, 'more': (), **settings}
+        super().__init__(parts=('nginx',), **own)
+
+    def lay_parts(self) -> None:
+        super().lay_parts()
+        self.relay = Relay(self.registry_port, path=self.folder / 'door.sock')
+        self.records = Relay(self.registry_port, path=self.folder / 'web.sock')
+        (self.folder / 'verify.sock').symlink_to('web.sock')
 
 
-def sent(
-    place: Place, text: bytes, source: str = '127.0.0.1', port: int = 0, tls: bool = True
-) -> Answer:
+def sent(front: House, text: bytes, source: str = '', port: int = 0, tls: bool = True) -> Answer:
     """The answer to bytes that come from an address of this machine."""
-    with socket.create_connection(('127.0.0.1', port or place.port), 60, (source, 0)) as plain:
-        stream = place.tls().wrap_socket(plain, server_hostname='localhost') if tls else plain
+    method, own = text.partition(b' ')[0].decode('latin-1'), front.door.tls() if tls else None
+    with client.connected(port or front.port, tls=own, source=source) as stream:
         stream.sendall(text)
         came, _ = client.read_most(stream)
-        stream.close()
-    return Answer(*client.read_answer(came, text.partition(b' ')[0].decode('latin-1')))
+    return read_answer(client.read_answer(came, method))
 
 
 def request(
@@ -66,71 +62,53 @@ def request(
     return '\r\n'.join([*lines, '', '']).encode() + body
 
 
-def ask(
-    place: Place,
-    method: str,
-    path: str,
-    user: str = '',
-    password: str = '',
-    body: bytes = b'',
-    source: str = '127.0.0.1',
-    port: int = 0,
-    **fields: str,
-) -> Answer:
-    """One request of a user, from an address."""
-    return sent(place, request(method, path, user, password, body, **fields), source, port)
-
-
-def lines_of_log(place: Place) -> list[dict[str, str]]:
+def lines_of_log(front: House) -> list[dict[str, str]]:
     """The lines of the front door's log, each of which has to be JSON in UTF-8."""
     return [
         json.loads(line.decode('utf-8'))
-        for line in (place.dir / 'front-door.log').read_bytes().splitlines()
+        for line in (front.folder / 'front-door.log').read_bytes().splitlines()
     ]
 
 
-def post(place: Place, user: str, **body: object) -> Answer:
-    """A command of a user."""
-    return ask(place, 'POST', REQUESTS, user, body=json.dumps(body).encode())
-
-
-def put_user(place: Place, user: str, *words: str) -> None:
+def put_user(front: House, user: str, *words: str) -> None:
     """A user of the file of passwords alone; with -D he is taken out."""
     given = words or ('-bB', '-C', '4')
     password = () if words else (f'pw-{user}',)
-    subprocess.run(['htpasswd', *given, place.etc / 'users', user, *password], check=True,
+    subprocess.run(['htpasswd', *given, front.door.etc / 'users', user, *password], check=True,
                    capture_output=True)
 
 
-def callers(place: Place, *words: str, path: str = '') -> 'subprocess.CompletedProcess[str]':
-    """A run of goo-callers over the files of a place; `path` has its programs."""
-    own = [f'--list={place.etc}/callers', f'--users={place.etc}/users',
-           f'--map={place.etc}/callers.map']
-    return subprocess.run([*command('goo-callers', place.service), *own, *words], text=True,
-                          capture_output=True, check=False,
-                          env={**os.environ, 'PATH': path or os.environ['PATH']})
+def callers(front: House, *words: str, path: str = '') -> 'subprocess.CompletedProcess[str]':
+    """A run of goo-callers over the files of a house; `path` has its programs."""
+    return subprocess.run([*front.door.callers_words(), *words], text=True, capture_output=True,
+                          check=False, env={**os.environ, 'PATH': path or os.environ['PATH']})
 
 
-def workers(place: Place) -> list[int]:
+def nginx_of(front: House) -> int:
+    """The number of nginx's first process."""
+    process = front.parts['nginx'].process
+    assert process
+    return process.pid
+
+
+def workers(front: House) -> list[int]:
     """The numbers of nginx's workers."""
-    assert place.nginx
-    number = place.nginx.pid
-    return [int(one) for one in
-            pathlib.Path(f'/proc/{number}/task/{number}/children').read_text().split()]
+    number = nginx_of(front)
+    return [int(one) for one in Path(f'/proc/{number}/task/{number}/children').read_text().split()]
 
 
-def reload(place: Place) -> None:
+def reload(front: House) -> None:
     """nginx reads its files again, and the old workers are gone."""
-    before = set(workers(place))
-    subprocess.run([*place.nginx_words(), '-s', 'reload'], check=True, capture_output=True)
-    assert client.comes(lambda: workers(place) and not before & set(workers(place)))
+    before = set(workers(front))
+    front.run(*front.door.words(), '-s', 'reload')
+    assert client.comes(lambda: workers(front) and not before & set(workers(front)))
 
 
 @dataclass
 class Standin:
     """What stands for the log or the records: holds each request until it may answer, all alike."""
 
-    path: pathlib.Path
+    path: Path
     answer: bytes
     may_answer: threading.Event = field(default_factory=threading.Event)
     heads: list[bytes] = field(default_factory=list)
@@ -165,18 +143,9 @@ class Standin:
 
 def answer_of(status: str, *fields: str, body: bytes = b'{}\n') -> bytes:
     """The bytes of an answer."""
-    head = '\r\n'.join(
-        [
-            f'HTTP/1.1 {status}',
-            'Content-Type: application/json',
-            *fields,
-            f'Content-Length: {len(body)}',
-            'Connection: close',
-            '',
-            '',
-        ]
-    )
-    return head.encode() + body
+    lines = [f'HTTP/1.1 {status}', 'Content-Type: application/json', *fields,
+             f'Content-Length: {len(body)}', 'Connection: close', '', '']
+    return '\r\n'.join(lines).encode() + body
 
 
 def at_once(asks: list[Callable[[], Answer]]) -> list[Answer | None]:

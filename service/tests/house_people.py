@@ -30,7 +30,7 @@ from goo_service.people.users import New
 from goo_service.people.users import User
 
 if TYPE_CHECKING:
-    from house import Answer
+    from calls import Answer
     from house import House
 
 USERS = {'office': ('ISSUER', 'officer'), 'second': ('ISSUER', 'second'),

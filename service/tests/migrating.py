@@ -2,7 +2,6 @@
 import shutil
 from pathlib import Path
 
-import loopback
 import old_registry
 from goo_service.migrate import check
 from goo_service.migrate import plan
@@ -10,8 +9,9 @@ from goo_service.migrate import rehearsal
 from goo_service.migrate import settings
 from goo_service.migrate import work
 from goo_service.migrate.settings import Settings
+from programs import find_registry
 
-GOO = str(Path(loopback.program()).resolve())
+GOO = str(Path(find_registry()).resolve())
 ASSIGNED = old_registry.SETTINGS + '[numbers]\nform = "assigned"\npattern = "08([0-9]{12})"\n'
 
 

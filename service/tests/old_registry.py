@@ -1,6 +1,6 @@
 """An old registry as its tables show it, made by a seed: holders, accounts, devices, stock.
 
-    python3 service/tests/old_registry.py FOLDER [--seed N] [--times N]
+    python3 service/tests/old_registry.py FOLDER [--seed N] [--times N] [--others N]
 
 writes the tables of a country (10,000 devices, 2,000 holders, three million certificates in 400,000
 ranges), or so many times as much. Tests make small ones, and plant a fault of each kind.
@@ -14,6 +14,7 @@ from collections.abc import Callable
 from collections.abc import Iterator
 from dataclasses import dataclass
 from dataclasses import replace
+from itertools import chain
 from pathlib import Path
 
 TOP = Path(__file__).resolve().parents[2]
@@ -23,6 +24,8 @@ if __name__ == '__main__':          # tests have their own way to these
 from mutations import gsrn
 
 CODE, NEW_CODE, DATE, CLOSED_ON = 8, 7, '2025-03-01', '2025-02-27'
+OTHERS = (9, 34)
+"""Registries of which the old one had imported certificates."""
 FIRST_MONTH = (2024, 2)
 TECHS = (('T010000', 'F01040100', 'electricity'), ('T020001', 'F01050100', 'electricity'),
          ('T030000', 'F01050200', 'hydrogen'), ('T050000', 'F01030400', 'gas'))
@@ -36,6 +39,8 @@ HEADERS = {
                 'capacity', 'commissioned', 'support'),
     'stock': ('first', 'last', 'device', 'first_day', 'last_day', 'issued_on', 'account'),
     'carried': ('device', 'energy_wh'),
+    'lots': ('registry', 'device', 'first_day', 'site', 'country', 'technology', 'source',
+             'carrier', 'capacity', 'commissioned', 'support'),
 }
 SETTINGS = f'''
 [old]
@@ -63,13 +68,15 @@ class Size:
     """Of a lot."""
     certificates: int = 15
     """Of a range, at most."""
+    others: int = 0
+    """Lots of third registries, each with two ranges."""
 
 
 COUNTRY = Size(holders=2000, devices=10_000, months=10, ranges=4, certificates=14)
 
 
-def number(serial: int) -> str:
-    return f'{CODE:02}{serial:012}'
+def number(serial: int, code: int = CODE) -> str:
+    return f'{code:02}{serial:012}'
 
 
 def month(begin: tuple[int, int], count: int) -> tuple[str, str, str]:
@@ -116,13 +123,30 @@ class Maker:
                            last_day, issued_on, account]
                     serial += width + self.chance.choice((0, 0, 3))
 
+    def lots(self) -> Iterator[Row]:
+        """Lots of third registries. Each has a device of its own."""
+        for at in range(self.size.others):
+            tech, source, carrier = TECHS[at % len(TECHS)]
+            yield [str(OTHERS[at % len(OTHERS)]), gsrn(900_000 + at), month(self.begin, 0)[0],
+                   f'Parque eólico {at}', 'ES', tech, source, carrier, str(3_000_000 + at),
+                   '2012-05-15', SUPPORT[at % len(SUPPORT)]]
+
+    def others(self) -> Iterator[Row]:
+        """Ranges of third registries, with a gap between the two of a lot."""
+        for at, (code, device, first_day, *_) in enumerate(self.lots()):
+            for part in range(2):
+                first = 1000 * at + 20 * part + 1
+                yield [number(first, int(code)), number(first + 9 + part, int(code)), device,
+                       *month(self.begin, 0), f'A-{(at + part) % self.accounts}']
+
     def carried(self) -> Iterator[Row]:
         for at in range(self.size.devices):
             yield [gsrn(at + 1), str(self.chance.randrange(1_000_000))]
 
     def tables(self) -> dict[str, Iterator[Row]]:
         return {'holders': self.holders(), 'accounts': self.account_rows(),
-                'devices': self.devices(), 'stock': self.stock(), 'carried': self.carried()}
+                'devices': self.devices(), 'stock': chain(self.stock(), self.others()),
+                'carried': self.carried(), 'lots': self.lots()}
 
 
 def write(folder: Path, seed: int, size: Size = Size(), settings: str = SETTINGS,
@@ -131,7 +155,8 @@ def write(folder: Path, seed: int, size: Size = Size(), settings: str = SETTINGS
     (folder / 'tables').mkdir(parents=True, exist_ok=True)
     (folder / 'migration.toml').write_text(settings, encoding='utf-8')
     for table, rows in Maker(seed, size, begin).tables().items():
-        write_table(folder, table, rows)
+        if table != 'lots' or size.others:
+            write_table(folder, table, rows)
 
 
 def write_table(folder: Path, table: str, rows: Iterator[Row] | list[Row],
@@ -144,11 +169,13 @@ def write_table(folder: Path, table: str, rows: Iterator[Row] | list[Row],
 
 
 def read_tables(folder: Path) -> Tables:
-    """All tables without their headers."""
+    """All tables that are there, without their headers."""
     tables = {}
     for table in HEADERS:
-        with (folder / 'tables' / f'{table}.csv').open(encoding='utf-8', newline='') as file:
-            tables[table] = list(csv.reader(file))[1:]
+        path = folder / 'tables' / f'{table}.csv'
+        if path.exists():
+            with path.open(encoding='utf-8', newline='') as file:
+                tables[table] = list(csv.reader(file))[1:]
     return tables
 
 
@@ -220,6 +247,28 @@ PLANTED = (
     Planted('carry carried 1', put('carried', 1, 'energy_wh', '1000000')),
     Planted('carry-twice carried 9', again('carried', 1)),
 )
+WITH_OTHERS = Size(others=3)
+"""Rows 97 to 102 of the stock are of third registries."""
+PLANTED_OTHERS = (
+    Planted('other-registry stock 97', lambda tables: tables['lots'].pop(0)),
+    Planted('other-registry stock 98', put('stock', 98, 'device', gsrn(1))),
+    Planted('own-registry stock 97', lambda tables: tables['stock'][96].__setitem__(
+        slice(2), [number(1, NEW_CODE), number(9, NEW_CODE)])),
+    Planted('range stock 97', put('stock', 97, 'last', number(10, 34))),
+    Planted('overlap stock 103', again('stock', 98)),
+    Planted('lot-differs stock 98', put('stock', 98, 'issued_on', '2024-03-11')),
+    Planted('lot-twice lots 4', again('lots', 1, site='Elsewhere')),
+    Planted('registry lots 1', put('lots', 1, 'registry', '08')),
+    Planted('registry lots 2', put('lots', 2, 'registry', '100')),
+    Planted('day lots 1', put('lots', 1, 'first_day', '01.02.2024')),
+    Planted('device-number lots 1', put('lots', 1, 'device', '500000000000000011')),
+    Planted('name-long lots 2', put('lots', 2, 'site', 'ż' * 33)),
+    Planted('country lots 1', put('lots', 1, 'country', 'Spain')),
+    Planted('capacity lots 1', put('lots', 1, 'capacity', 'much')),
+    Planted('before-commissioning lots 1', put('lots', 1, 'commissioned', '2024-02-02')),
+    Planted('more-than-made stock 97', put('lots', 1, 'capacity', '10')),
+)
+"""Faults in the tables of an old registry that has certificates of third registries."""
 
 
 def main() -> int:
@@ -228,9 +277,10 @@ def main() -> int:
     parser.add_argument('folder', type=Path)
     parser.add_argument('--seed', type=int, default=1)
     parser.add_argument('--times', type=int, default=1)
+    parser.add_argument('--others', type=int, default=0, help='lots of third registries')
     given = parser.parse_args()
     size = replace(COUNTRY, holders=COUNTRY.holders * given.times,
-                   devices=COUNTRY.devices * given.times)
+                   devices=COUNTRY.devices * given.times, others=given.others)
     write(given.folder, given.seed, size)
     return 0
 

@@ -13,6 +13,7 @@ from collections.abc import Callable
 from dataclasses import dataclass
 from dataclasses import field
 from pathlib import Path
+from typing import Any
 
 PATIENCE = 60.0
 """Seconds that a part may take to start or to end, on a machine that does much else."""
@@ -50,7 +51,7 @@ class Part:
 
     name: str
     words: Callable[[], list[str]]
-    is_there: Callable[[float], bool]
+    is_there: Callable[[float], Any]
     """Whether it takes requests. It is given the time at which the part was started."""
     folder: Path
     guard: Guard

@@ -22,7 +22,7 @@ from werkzeug.serving import make_server
 
 import client
 from goo_service.people import store
-from house import SERVICE
+from door import SERVICE
 from service_commands import command
 
 PATIENCE = 60.0
@@ -122,15 +122,20 @@ class Post:
                 '--config', str(self.config / 'people-post.conf')]
 
     def start(self) -> None:
+        """Once it says that it runs. A mailer may have killed it since."""
+        starts = self.starts
         with open(self.said, 'ab') as file:
             self.process = subprocess.Popen(self.words(), stdout=file, stderr=file,
                                             cwd=self.folder)
-        count = self.text.count('sends what waits')
-        comes(lambda: self.text.count('sends what waits') > count or self.is_ended())
-        assert not self.is_ended(), self.text
+        comes(lambda: self.starts > starts or self.is_ended())
+        assert self.starts > starts, self.text
 
     def is_ended(self) -> bool:
         return self.process is None or self.process.poll() is not None
+
+    @property
+    def starts(self) -> int:
+        return self.text.count('sends what waits')
 
     @property
     def text(self) -> str:

@@ -2,7 +2,7 @@
 import shutil
 from pathlib import Path
 
-from house import SERVICE
+from door import SERVICE
 
 
 class NotPlanted(Exception):

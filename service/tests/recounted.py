@@ -10,7 +10,7 @@ from typing import Any
 
 import client
 from cases import NEW
-from loopback import program
+from programs import find_registry
 from service_commands import command
 
 RECOUNT = command('goo-copies recount')
@@ -123,7 +123,7 @@ class Files:
     """A folder for registries and their copies, and the program."""
 
     def __init__(self, folder: Path) -> None:
-        self.goo, self.folder, self.made = str(program()), folder, 0
+        self.goo, self.folder, self.made = str(find_registry()), folder, 0
 
     def fresh(self) -> Path:
         self.made += 1

@@ -12,9 +12,9 @@ from dataclasses import field
 from pathlib import Path
 
 import pytest
-from house import SERVICE
+from door import SERVICE
 from house import House
-from house import ISSUER
+from calls import ISSUER
 from service_commands import command
 
 ADVANCE = command('goo-advance', SERVICE)

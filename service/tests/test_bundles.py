@@ -22,7 +22,7 @@ from hypothesis import HealthCheck
 from hypothesis import given
 from hypothesis import settings
 from hypothesis import strategies as some
-from loopback import program
+from programs import find_registry
 
 HOST = bounds.Host(datetime.date(2026, 3, 1))
 WHOLE = bundles.WHOLE
@@ -187,7 +187,7 @@ def test_lines_behind_one_that_is_set_aside_are_not_sent() -> None:
 
 # ------------------------------------------------------------------ the rehearsal
 
-GOO = program()
+GOO = find_registry()
 CODE, DAY = 7, '2025-04-05'
 DEVICES = ('500000000000000012', '500000000000000029')
 NUMBERS = some.integers(1, 45)

@@ -7,8 +7,9 @@ from typing import Any
 
 import client
 from alone import Alone
+from goo_service.log import reader
 from goo_service.log import entries
-from house import Answer
+from calls import Answer
 from house import House
 from service_commands import command
 
@@ -100,7 +101,7 @@ def test_a_colleague_reads_and_sends_meanwhile(own_house: House) -> None:
 
 
 def archived(house: House) -> list[entries.Record]:
-    return list(entries.read_archive(house.state / 'archive'))
+    return list(reader.read_archive(house.state / 'archive'))
 
 
 def in_thread(house: House, route: str, body: str) -> threading.Thread:

@@ -7,7 +7,7 @@ from pathlib import Path
 import pytest
 from goo_service.people import callers
 from goo_service.people.callers import Fault
-from house import SERVICE
+from door import SERVICE
 from hypothesis import given
 from hypothesis import strategies as some
 from service_commands import command

@@ -17,10 +17,10 @@ from typing import Any
 from typing import cast
 
 from goo_service.copies import contents
+from goo_service.log import reader
 from goo_service.log import entries
 from goo_service.log.archive import Archive
 from goo_service.log.archive import compress
-import loopback
 from goo_service.common import owner
 import pytest
 from goo_service.copies import nightly
@@ -31,15 +31,16 @@ from goo_service.copies.places import read_place
 from goo_service.log import position
 from goo_service.copies import rows
 from goo_service.log import reversal
-from house import Country
-from house import SERVICE
+from calls import Country
+from door import SERVICE
 from house import House
 from mutations import gsrn
 from plants import copied
 from plants import plant
+from programs import find_registry
 from service_commands import command
 
-GOO = str(Path(loopback.program()).resolve())
+GOO = str(Path(find_registry()).resolve())
 KEY = b'the key of a trial'
 HEADER = b'key,device,first_day,last_day,gross_wh,aux_wh\n'
 NOBODY = 65534
@@ -88,7 +89,7 @@ class Log:
                                         begin))
 
     def file(self) -> Path:
-        return entries.months(self.state / 'archive')[-1]
+        return reader.months(self.state / 'archive')[-1]
 
 
 @pytest.fixture
@@ -473,8 +474,8 @@ def test_a_copy_is_the_live_file(log_house: House) -> None:
     subprocess.run([GOO, 'audit', '--db', house.db], check=True, capture_output=True)
     assert dumped(newest(house) / 'registry.db') == dumped(house.db)
     place = json.loads((newest(house) / 'place.json').read_text())
-    assert place['n'] == entries.number_in(
-        entries.months(house.state / 'archive')[-1].read_bytes().splitlines()[-1])
+    assert place['n'] == reader.number_in(
+        reader.months(house.state / 'archive')[-1].read_bytes().splitlines()[-1])
 
 
 NOTICE = {
@@ -648,7 +649,7 @@ def undone_holds(house: House, country: Country, n: int, wrong: str) -> None:
     assert verified.returncode == 0 and f'entries 1 to {n + 3}: ' in verified.stdout, verified
     assert house.log_words('copy').returncode == 0
     assert house.log_words('undo', n).returncode == 1       # a replica runs
-    entry = next(entries.read_archive(house.state / 'archive', n)).entry
+    entry = next(reader.read_archive(house.state / 'archive', n)).entry
     assert (entry.user, entry.address) == ('anna', '192.0.2.9')
 
 
@@ -668,11 +669,11 @@ def test_an_archive_of_months_is_cut_at_any_entry(tmp_path: Path, last: int) -> 
         assert archive.last
         prev, chain = archive.last.hash, archive.last.outcome.chain
     compress(state / 'archive')
-    records = list(entries.read_archive(state / 'archive'))
+    records = list(reader.read_archive(state / 'archive'))
     whole = {path.name: path.read_bytes() for path in (state / 'archive').iterdir()}
     for _ in range(2):
         folder = Path(reversal.remove_from(state, last, lambda point: line_after(point)))
-    assert list(entries.read_archive(state / 'archive')) == records[:last - 1]
+    assert list(reader.read_archive(state / 'archive')) == records[:last - 1]
     assert {path.name: path.read_bytes() for path in (folder / 'archive').iterdir()} == whole
     place = position.Place(state / 'place')
     assert (place.n, place.hash) == (last - 1, records[last - 1].entry.prev)

@@ -16,17 +16,17 @@ import yaml  # type: ignore[import]
 
 import client
 from alone import Alone
+from calls import Answer
 from cases import cases_in
 from described import Description
 from front import FAST
+from front import Front
 from front import REQUESTS
-from front import Answer
-from front import ask
-from front import post
 from front import request
 from front import sent
-from house import SERVICE
-from loopback import Place
+from door import SERVICE
+from house import CODE
+from house import DAY
 from made_book import routes_of
 from service_commands import command
 
@@ -42,7 +42,7 @@ def is_described(method: str, path: str, answer: Answer) -> bool:
     for operation in described.operations:
         form = re.sub(r'\{\w+\}', '[^/]+', operation.path)
         if re.fullmatch(form, path.split('?')[0]) and operation.method == method.lower():
-            fault = described.fault(operation, answer.status, answer.head['Content-Type'],
+            fault = described.fault(operation, answer.status, answer.fields['content-type'],
                                     answer.body)
             assert fault is None
             return True
@@ -50,10 +50,10 @@ def is_described(method: str, path: str, answer: Answer) -> bool:
 
 
 @pytest.fixture(scope='module')
-def place() -> Iterator[Place]:
-    with Place(rate=FAST, cost=4, more=('auditor ISSUER reads', 'meters ISSUER declares')) as made:
-        post(made, 'office', command='open_holder', key='a1', holder='SUN', name='Sun Power')
-        post(made, 'office', command='open_account', key='a2', holder='SUN')
+def front() -> Iterator[Front]:
+    with Front(rate=FAST, more=('auditor ISSUER reads', 'meters ISSUER declares')) as made:
+        made.send('office', 'open_holder', key='a1', holder='SUN', name='Sun Power')
+        made.send('office', 'open_account', key='a2', holder='SUN')
         yield made
 
 
@@ -98,30 +98,30 @@ CALLS = {
 
 
 @pytest.mark.parametrize('what', CALLS)
-def test_an_answer_is_as_described(place: Place, what: str) -> None:
+def test_an_answer_is_as_described(front: Front, what: str) -> None:
     of = CALLS[what]
     text = request(of.method, of.path, of.user, of.password, of.body, **dict(of.more))
-    answer = sent(place, text)
-    assert (answer.status, answer.head['Content-Type'].split(';')[0]) == (of.status, of.kind)
+    answer = sent(front, text)
+    assert (answer.status, answer.fields['content-type'].split(';')[0]) == (of.status, of.kind)
     assert is_described(of.method, of.path, answer)
 
 
-def test_another_method_is_as_described(place: Place) -> None:
+def test_another_method_is_as_described(front: Front) -> None:
     """By the answers of the method that is there."""
-    answer = ask(place, 'POST', STATEMENT, 'office', body=b'{}')
+    answer = front.ask('office', 'POST', STATEMENT, b'{}')
     assert answer.status == 405
     assert is_described('GET', STATEMENT, answer)
 
 
-def test_a_registry_that_is_stopped(place: Place) -> None:
-    place.stop_registry()
+def test_a_registry_that_is_stopped(front: Front) -> None:
+    front.stop('registry')
     try:
         for path in (STATEMENT, ACTS):
-            answer = ask(place, 'GET', path, 'anna')
+            answer = front.ask('anna', 'GET', path)
             assert answer.status == 502 and is_described('GET', path, answer)
     finally:
-        place.start_registry()
-    assert ask(place, 'GET', STATEMENT, 'anna').status == 200
+        front.start('registry')
+    assert front.ask('anna', 'GET', STATEMENT).status == 200
 
 
 FEW = (('zone=goo_rate:10m rate=20r/s', 'zone=goo_rate:10m rate=1r/m'),
@@ -132,8 +132,8 @@ FEW = (('zone=goo_rate:10m rate=20r/s', 'zone=goo_rate:10m rate=1r/m'),
 @pytest.mark.parametrize(('path', 'user'), [('/v1/audit', 'anna'), (ACTS, 'anna'),
                                             ('/verify?number=1&code=x', '')])
 def test_too_often_is_as_described(path: str, user: str) -> None:
-    with Place(changes=FEW, cost=4) as place:
-        answers = [ask(place, 'GET', path, user) for _ in range(15)]
+    with Front(changes=FEW) as front:
+        answers = [front.ask(user, 'GET', path) for _ in range(15)]
     assert answers[-1].status == 429
     assert is_described('GET', path, answers[-1])
 
@@ -143,12 +143,12 @@ IMPATIENT = (('proxy_read_timeout    300s', 'proxy_read_timeout    1s'),
 
 
 def test_no_answer_in_time_is_as_described() -> None:
-    with Place(changes=IMPATIENT, cost=4) as place:
-        place.registry.send_signal(signal.SIGSTOP)
+    with Front(changes=IMPATIENT) as front:
+        front.parts['registry'].send(signal.SIGSTOP)
         try:
-            answer = ask(place, 'GET', '/v1/audit', 'office')
+            answer = front.ask('office', 'GET', '/v1/audit')
         finally:
-            place.registry.send_signal(signal.SIGCONT)
+            front.parts['registry'].send(signal.SIGCONT)
     assert answer.status == 504 and is_described('GET', '/v1/audit', answer)
 
 
@@ -181,36 +181,46 @@ def test_an_entry_that_fails_and_is_set_aside(tmp_path: Path) -> None:
 
 # ------------------------------------------------------------------ routes
 
-def test_the_description_is_served_to_who_signed_in(place: Place) -> None:
-    answer = ask(place, 'GET', '/openapi.yaml', 'anna')
-    assert (answer.status, answer.head['Content-Type']) == (200, 'application/yaml')
+def test_the_description_is_served_to_who_signed_in(front: Front) -> None:
+    answer = front.ask('anna', 'GET', '/openapi.yaml')
+    assert (answer.status, answer.fields.get('content-type')) == (200, 'application/yaml')
     assert yaml.safe_load(answer.body) == OUTSIDE.whole
-    assert ask(place, 'GET', '/openapi.yaml').status == 401
-    assert ask(place, 'POST', '/openapi.yaml', 'anna', body=b'x').status == 403
+    assert front.ask(None, 'GET', '/openapi.yaml').status == 401
+    assert front.ask('anna', 'POST', '/openapi.yaml', b'x').status == 403
 
 
-def test_no_route_of_the_records_lets_in_nobody(place: Place, tmp_path: Path) -> None:
+def test_no_route_of_the_records_lets_in_nobody(front: Front, tmp_path: Path) -> None:
     """Nor a wrong password, or a user who only declares."""
     own = routes_of(tmp_path)
     paths = [*own.lists, *own.others, *(f'{name}/1' for name in own.ones)]
-    before = len(place.records.heads)
+    before = len(front.records.heads)
     for path in (f'/records/v1/{path}' for path in paths):
-        got = [ask(place, 'GET', path, user).status for user in ('', 'meters')]
-        assert [*got, ask(place, 'GET', path, 'anna', 'wrong').status] == [401, 403, 401], path
-    assert len(place.records.heads) == before and len(paths) > 5
+        got = [front.ask(user, 'GET', path).status for user in ('', 'meters')]
+        wrong = front.ask('anna', 'GET', path, password='wrong').status
+        assert [*got, wrong] == [401, 403, 401], path
+    assert len(front.records.heads) == before and len(paths) > 5
 
 
 # ------------------------------------------------------------------ worked cases
+
+def begin_anew(front: Front, *words: str) -> None:
+    """An empty registry in the place of the one before."""
+    front.stop('registry')
+    for file in front.db.parent.glob('registry.db*'):
+        file.unlink()
+    front.run(front.goo, 'init', '--db', front.db, '--code', CODE, '--today', DAY, *words)
+    front.start('registry')
+
 
 @pytest.mark.slow
 def test_each_worked_case_goes_through_tls_as_it_is() -> None:
     """Answered byte for byte as the case has it."""
     users = {b'ISSUER': 'office', b'SUN': 'anna', b'VOLT': 'bela'}
-    with Place(rate=FAST, cost=4) as own:
+    with Front(rate=FAST) as own:
         for case in cases_in():
-            own.new_registry(*case.next_serial)
+            begin_anew(own, *case.next_serial)
             for line, want in zip(case.asked(), case.outcomes.decode().splitlines(), strict=True):
                 caller, _, body = line.partition(b' ')
                 if caller in users and '"Caller"' not in want:      # others can't sign in
-                    answer = ask(own, 'POST', REQUESTS, users[caller], body=body)
+                    answer = own.ask(users[caller], 'POST', REQUESTS, body)
                     assert answer.body.decode() == want, case.name

@@ -12,34 +12,33 @@ import pytest
 
 import client
 from front import FAST
+from front import Front
 from front import FEW_COMPARISONS
 from front import REQUESTS
 from front import STRANGER
 from front import Standin
 from front import VISITOR
 from front import answer_of
-from front import ask
 from front import lines_of_log
-from front import post
+from front import nginx_of
 from front import request
 from front import sent
-from house import SERVICE
+from door import SERVICE
 from service_commands import command
-from loopback import Place
 
 
 # ------------------------------------------------------------------ a balancer in front
 
 
-def balanced(place: Place, port: int, without: str = '') -> str:
-    """The balancer's file with ports of this machine: the place is the first host."""
+def balanced(front: Front, port: int, without: str = '') -> str:
+    """The balancer's file with ports of this machine: the house is the first host."""
     text = (SERVICE / 'etc/haproxy/haproxy.cfg').read_text()
     for old, new in (
         ('bind :443', f'bind 127.0.0.1:{port}'),
-        ('192.0.2.1:8443', f'127.0.0.1:{place.behind}'),
+        ('192.0.2.1:8443', f'127.0.0.1:{front.door.behind}'),
         ('192.0.2.2:', '127.0.0.9:'),
         ('192.0.2.3:', '127.0.0.9:'),
-        ('port 8475', f'port {place.health}'),
+        ('port 8475', f'port {front.door.health}'),
     ):
         assert old in text
         text = text.replace(old, new)
@@ -47,62 +46,62 @@ def balanced(place: Place, port: int, without: str = '') -> str:
 
 
 @pytest.fixture(scope='module')
-def through() -> Iterator[tuple[Place, int]]:
+def through() -> Iterator[tuple[Front, int]]:
     """A front door behind the real haproxy, and the port for visitors. Passwords: three at once."""
     port = client.free_port()
-    with Place(changes=FEW_COMPARISONS, cost=4, balancer='127.0.0.1') as place:
-        well = Standin(place.dir / 'door.sock', answer_of('200 OK'))
+    with Front(changes=FEW_COMPARISONS, balancer='127.0.0.1') as front:
+        well = Standin(front.folder / 'door.sock', answer_of('200 OK'))
         well.may_answer.set()
-        (place.dir / 'haproxy.cfg').write_text(balanced(place, port))
+        (front.folder / 'haproxy.cfg').write_text(balanced(front, port))
         balancer = subprocess.Popen(
-            ['haproxy', '-db', '-f', place.dir / 'haproxy.cfg'], stderr=subprocess.DEVNULL
+            ['haproxy', '-db', '-f', front.folder / 'haproxy.cfg'], stderr=subprocess.DEVNULL
         )
         try:
-            assert client.comes(lambda: is_served(place, port), 20)
-            yield place, port
+            assert client.comes(lambda: is_served(front, port), 20)
+            yield front, port
         finally:
             balancer.terminate()
             balancer.wait(20)
 
 
-def is_served(place: Place, port: int) -> bool:
+def is_served(front: Front, port: int) -> bool:
     """Whether the balancer has found its first host."""
     try:
-        return ask(place, 'GET', '/style.css', port=port).status == 200
+        return front.ask(None, 'GET', '/style.css', port=port).status == 200
     except OSError:
         return False
 
 
-def test_balancer_tells_whose_a_connection_is(through: tuple[Place, int]) -> None:
-    place, port = through
+def test_balancer_tells_whose_a_connection_is(through: tuple[Front, int]) -> None:
+    front, port = through
     got = [
-        ask(place, 'GET', '/v1/audit', 'anna', 'wrong', source=STRANGER, port=port).status
+        front.ask('anna', 'GET', '/v1/audit', password='wrong', source=STRANGER, port=port).status
         for _ in range(5)
     ]
     assert got == [401, 401, 401, 429, 429]
-    assert ask(place, 'GET', '/v1/audit', 'anna', source=VISITOR, port=port).status == 200
-    assert [line['address'] for line in lines_of_log(place)[-6:]] == [STRANGER] * 5 + [VISITOR]
+    assert front.ask('anna', 'GET', '/v1/audit', source=VISITOR, port=port).status == 200
+    assert [line['address'] for line in lines_of_log(front)[-6:]] == [STRANGER] * 5 + [VISITOR]
 
 
-def test_nobody_else_tells_whose_a_connection_is(through: tuple[Place, int]) -> None:
+def test_nobody_else_tells_whose_a_connection_is(through: tuple[Front, int]) -> None:
     """Who comes to the balancer's port by himself keeps his address; at the other none is told."""
-    place, _ = through
-    said = f'PROXY TCP4 127.0.0.77 127.0.0.1 1000 {place.behind}\r\n'.encode()
-    with socket.create_connection(('127.0.0.1', place.behind), 20, (STRANGER, 0)) as plain:
+    front, _ = through
+    said = f'PROXY TCP4 127.0.0.77 127.0.0.1 1000 {front.door.behind}\r\n'.encode()
+    with socket.create_connection(('127.0.0.1', front.door.behind), 20, (STRANGER, 0)) as plain:
         plain.sendall(said)
-        with place.tls().wrap_socket(plain, server_hostname='localhost') as stream:
+        with front.door.tls().wrap_socket(plain, server_hostname='localhost') as stream:
             stream.sendall(request('GET', '/style.css'))
             client.read_most(stream)
-    assert client.comes(lambda: lines_of_log(place)[-1]['route'] == '/style.css', 10)
-    assert lines_of_log(place)[-1]['address'] == STRANGER
-    got = client.ask(place.port, said + b'GET / HTTP/1.1\r\nHost: localhost\r\n\r\n')
+    assert client.comes(lambda: lines_of_log(front)[-1]['route'] == '/style.css', 10)
+    assert lines_of_log(front)[-1]['address'] == STRANGER
+    got = client.ask(front.port, said + b'GET / HTTP/1.1\r\nHost: localhost\r\n\r\n')
     assert b'400 Bad Request' in got
 
 
-def test_another_name_is_refused_behind_the_balancer(through: tuple[Place, int]) -> None:
-    place, port = through
+def test_another_name_is_refused_behind_the_balancer(through: tuple[Front, int]) -> None:
+    front, port = through
     text = b'GET / HTTP/1.1\r\nHost: evil.example\r\nConnection: close\r\n\r\n'
-    assert sent(place, text, port=port).status == 421
+    assert sent(front, text, port=port).status == 421
 
 
 def begun(port: int) -> socket.socket | None:
@@ -126,21 +125,22 @@ def waits(stream: socket.socket | None) -> bool:
         return False
 
 
-def test_an_address_has_so_many_connections_at_the_balancer(through: tuple[Place, int]) -> None:
-    place, port = through
+def test_an_address_has_so_many_connections_at_the_balancer(through: tuple[Front, int]) -> None:
+    front, port = through
     held = [begun(port) for _ in range(160)]
     assert client.comes(lambda: sum(map(waits, held)) == 128, 5)
-    assert ask(place, 'GET', '/style.css', source=VISITOR, port=port).status == 200
+    assert front.ask(None, 'GET', '/style.css', source=VISITOR, port=port).status == 200
     for stream in held:
         if stream:
             stream.close()
 
 
-def front_health(place: Place) -> subprocess.CompletedProcess[str]:
-    """A run of service/libexec/front-health over a place."""
+def front_health(front: Front) -> subprocess.CompletedProcess[str]:
+    """A run of service/libexec/front-health over a house."""
     return subprocess.run(
         [SERVICE / 'libexec/front-health'],
-        env={'PATH': '/usr/bin:/bin', 'GOO_ETC': str(place.etc), 'GOO_FRONT_PORT': str(place.port)},
+        env={'PATH': '/usr/bin:/bin', 'GOO_ETC': str(front.door.etc),
+             'GOO_FRONT_PORT': str(front.port)},
         capture_output=True,
         text=True,
         check=False,
@@ -148,19 +148,18 @@ def front_health(place: Place) -> subprocess.CompletedProcess[str]:
 
 
 def test_health_asks_the_front_door_itself() -> None:
-    with Place(rate=FAST, cost=4) as place:
-        Standin(place.dir / 'door.sock', answer_of('200 OK')).may_answer.set()
-        well = front_health(place)
+    with Front(rate=FAST) as front:
+        Standin(front.folder / 'door.sock', answer_of('200 OK')).may_answer.set()
+        well = front_health(front)
         assert (well.returncode, well.stdout, well.stderr) == (0, '', '')
-        assert ask(place, 'GET', '/healthz', source=STRANGER).status == 403
-        Standin(place.dir / 'door.sock', answer_of('503 Service Unavailable')).may_answer.set()
-        assert '503' in front_health(place).stderr
-        place.nginx.terminate()
-        place.nginx.wait(20)
-        down = front_health(place)
+        assert front.ask(None, 'GET', '/healthz', source=STRANGER).status == 403
+        Standin(front.folder / 'door.sock', answer_of('503 Service Unavailable')).may_answer.set()
+        assert '503' in front_health(front).stderr
+        front.stop('nginx')
+        down = front_health(front)
         assert down.returncode and 'connect' in down.stderr
-        (place.etc / 'host.conf').write_text('# nothing\n')
-        assert 'server_name' in front_health(place).stderr
+        (front.door.etc / 'host.conf').write_text('# nothing\n')
+        assert 'server_name' in front_health(front).stderr
 
 
 def section(path: str, name: str) -> list[tuple[str, str]]:
@@ -308,29 +307,29 @@ def test_nginx_is_reloaded_once_it_takes_the_configuration(listed: Listed) -> No
 
 # ------------------------------------------------------------------ the log of the front door
 
-def written(place: Place, count: int) -> list[dict[str, str]]:
+def written(front: Front, count: int) -> list[dict[str, str]]:
     """The lines of the log, which come after the answers: so many are waited for."""
-    file = place.dir / 'front-door.log'
+    file = front.folder / 'front-door.log'
     assert client.comes(lambda: file.exists() and file.read_text().count('\n') >= count, 30)
-    return lines_of_log(place)
+    return lines_of_log(front)
 
 
 def test_log_has_who_asked_what_and_no_password() -> None:
-    with Place(rate=FAST, cost=4) as place:
-        place.relay.field = 'GOO-Entry: 17'
-        post(place, 'office', command='open_holder', key='log-1.a:b_c', holder='SUN',
-             name='Say \\"key\\": \\"forged\\"')
-        place.relay.field = ''
+    with Front(rate=FAST) as front:
+        front.relay.line = 'GOO-Entry: 17'
+        front.send('office', 'open_holder', key='log-1.a:b_c', holder='SUN',
+                   name='Say \\"key\\": \\"forged\\"')
+        front.relay.line = ''
         body = b'{"command" : "open_account",\n "key" : "log-2", "holder":"SUN"}'
-        ask(place, 'POST', REQUESTS, 'office', body=body)
-        ask(place, 'GET', '/v1/accounts/1/statement', 'anna')
-        ask(place, 'GET', '/v1/audit', 'anna', 'S3cret-one')
-        ask(place, 'GET', '/v1/audit', 'S3cret-two', 'S3cret-three')
-        ask(place, 'POST', '/v1/declarations', 'office',
-            body=b'key,device,first_day,last_day,gross_wh,aux_wh\nrow-1,1,2,3,4,5\n')
-        got = written(place, 6)
-        every = ''.join(file.read_text() for file in place.dir.glob('*.log'))
-        rotated(place)
+        front.ask('office', 'POST', REQUESTS, body)
+        front.ask('anna', 'GET', '/v1/accounts/1/statement')
+        front.ask('anna', 'GET', '/v1/audit', password='S3cret-one')
+        front.ask('S3cret-two', 'GET', '/v1/audit', password='S3cret-three')
+        front.ask('office', 'POST', '/v1/declarations',
+                  b'key,device,first_day,last_day,gross_wh,aux_wh\nrow-1,1,2,3,4,5\n')
+        got = written(front, 6)
+        every = ''.join(file.read_text() for file in front.folder.glob('*.log'))
+        rotated(front)
     names = ('user', 'caller', 'status', 'method', 'route', 'key', 'entry')
     assert [tuple(line[name] for name in names) for line in got] == [
         ('office', 'ISSUER', '200', 'POST', '/v1/requests', 'log-1.a:b_c', '17'),
@@ -344,24 +343,23 @@ def test_log_has_who_asked_what_and_no_password() -> None:
     assert 'S3cret' not in every and 'pw-' not in every
 
 
-def rotated(place: Place) -> None:
+def rotated(front: Front) -> None:
     """logrotate keeps ten years; nginx goes on in a new file."""
     text = (SERVICE / 'etc/logrotate/goo').read_text()
     assert re.search(r'(?m)^\s*monthly$', text) and re.search(r'(?m)^\s*rotate 120$', text)
-    conf = place.dir / 'logrotate.conf'
-    assert place.nginx
-    conf.write_text(text.replace('/var/log/goo/', f'{place.dir}/').replace('www-data', 'root')
-                    .replace('invoke-rc.d nginx rotate', f'kill -USR1 {place.nginx.pid}'))
+    conf = front.folder / 'logrotate.conf'
+    conf.write_text(text.replace('/var/log/goo/', f'{front.folder}/').replace('www-data', 'root')
+                    .replace('invoke-rc.d nginx rotate', f'kill -USR1 {nginx_of(front)}'))
     conf.chmod(0o644)
-    subprocess.run(['logrotate', '-f', '-s', place.dir / 'logrotate.state', conf], check=True,
+    subprocess.run(['logrotate', '-f', '-s', front.folder / 'logrotate.state', conf], check=True,
                    capture_output=True)
 
     def is_new() -> bool:
-        ask(place, 'GET', '/v1/audit', 'bela')
-        return (place.dir / 'front-door.log').exists() and bool(lines_of_log(place))
+        front.ask('bela', 'GET', '/v1/audit')
+        return (front.folder / 'front-door.log').exists() and bool(lines_of_log(front))
     assert client.comes(is_new, 30)
-    assert {line['user'] for line in lines_of_log(place)} == {'bela'}
-    old, = place.dir.glob('front-door.log-*')
+    assert {line['user'] for line in lines_of_log(front)} == {'bela'}
+    old, = front.folder.glob('front-door.log-*')
     assert 'log-2' in old.read_text()
 
 

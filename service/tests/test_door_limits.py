@@ -14,14 +14,12 @@ from concurrent.futures import ThreadPoolExecutor
 import pytest
 
 import client
+from calls import Answer
+from door import SERVICE
 from front import FAST
+from front import Front
 from front import REQUESTS
-from front import Answer
-from front import ask
-from front import post
 from front import request
-from loopback import HOME
-from loopback import Place
 
 HEAD = b'GET /v1/audit HTTP/1.1\r\nHost: localhost\r\n'
 FOUND = '/v1/certificates/1'
@@ -51,24 +49,23 @@ def of_one_limit(statuses: list[int], passed: int, burst: int) -> bool:
 
 def test_the_public_check_tells_nothing_of_users() -> None:
     limit = ('zone=goo_verify:2m rate=10r/m', 'zone=goo_verify:2m rate=1r/m')
-    with Place(changes=(limit,), cost=4) as place:
-        got = [ask(place, 'GET', '/verify?number=1', 'office', 'wrong', GOO_Caller='ISSUER')
+    with Front(changes=(limit,)) as front:
+        got = [front.ask('office', 'GET', '/verify?number=1', password='wrong', GOO_Caller='ISSUER')
                for _ in range(15)]
         assert [answer.status for answer in got] == [404] * 11 + [429] * 4
-        assert {answer.head['GOO-Signed-In'] for answer in got} == {None}
-        heads = ''.join(place.records.heads).lower()
+        assert {answer.fields.get('goo-signed-in') for answer in got} == {None}
+        heads = ''.join(front.records.heads).lower()
         assert heads.count('get /verify?number=1 ') == 11
         assert 'goo-' not in heads and 'authorization' not in heads
 
 
 def test_the_pages_files_have_a_limit_of_their_own() -> None:
     files = limited('goo_files:10m', '10r/s', '300', 'goo_files', 30)
-    with Place(changes=(*files, *limited('goo_rate:10m', '20r/s', '60', 'goo_rate', 5)),
-               cost=4) as place:
-        got = [ask(place, 'GET', FOUND, 'anna').status for _ in range(8)]
+    with Front(changes=(*files, *limited('goo_rate:10m', '20r/s', '60', 'goo_rate', 5))) as front:
+        got = [front.ask('anna', 'GET', FOUND).status for _ in range(8)]
         assert got == [404] * 6 + [429] * 2
         names = ('/', '/style.css', '/page.js', '/lists.js')
-        got = together(lambda at: ask(place, 'GET', names[at % 4], 'anna'), 40)
+        got = together(lambda at: front.ask('anna', 'GET', names[at % 4]), 40)
         assert 31 <= got.count(200) <= 35 and got.count(200) + got.count(429) == 40
 
 
@@ -79,46 +76,44 @@ NAMED = ('    server_tokens       off;\n',
 
 
 def test_a_network_of_ipv6_is_one_address() -> None:
-    with Place(changes=(NAMED, *limited('goo_rate:10m', '20r/s', '60', 'goo_rate', 10)),
-               cost=4) as place:
-        got = together(lambda at: ask(place, 'GET', '/v1/audit', 'anna', 'wrong',
-                                      X_Trial=f'2001:db8:1:2:{("", "3:4:5")[at % 2]}:{at + 1:x}'),
-                       40)
+    with Front(changes=(NAMED, *limited('goo_rate:10m', '20r/s', '60', 'goo_rate', 10))) as front:
+        def ask(address: str) -> Answer:
+            return front.ask('anna', 'GET', '/v1/audit', password='wrong', X_Trial=address)
+        got = together(lambda at: ask(f'2001:db8:1:2:{("", "3:4:5")[at % 2]}:{at + 1:x}'), 40)
         assert of_one_limit(got, 401, 10)
-        other = ask(place, 'GET', '/v1/audit', 'anna', 'wrong', X_Trial='2001:db8:1:3::1')
-        assert other.status == 401
+        assert ask('2001:db8:1:3::1').status == 401
 
 
 def test_a_user_has_one_limit_that_no_stranger_uses_up() -> None:
     user = limited('goo_user:2m     ', '20r/s', '60', 'goo_user', 10)
-    with Place(changes=(NAMED, *user), cost=4) as place:
-        together(lambda at: ask(place, 'GET', FOUND, 'anna', 'wrong',
-                                X_Trial=f'192.0.2.{at + 1}'), 40)
-        assert ask(place, 'GET', FOUND, 'anna', X_Trial='198.51.100.1').status == 404
-        got = together(lambda at: ask(place, 'GET', FOUND, 'anna', X_Trial=f'192.0.2.{at + 1}'), 40)
+    with Front(changes=(NAMED, *user)) as front:
+        together(lambda at: front.ask('anna', 'GET', FOUND, password='wrong',
+                                      X_Trial=f'192.0.2.{at + 1}'), 40)
+        assert front.ask('anna', 'GET', FOUND, X_Trial='198.51.100.1').status == 404
+        got = together(lambda at: front.ask('anna', 'GET', FOUND, X_Trial=f'192.0.2.{at + 1}'), 40)
         assert of_one_limit(got, 404, 9)
-        assert ask(place, 'GET', FOUND, 'bela', X_Trial='192.0.2.1').status == 404
+        assert front.ask('bela', 'GET', FOUND, X_Trial='192.0.2.1').status == 404
 
 
 def test_a_user_writes_so_much_in_a_day_and_his_colleagues_write_on() -> None:
-    with Place(changes=limited('goo_writes:2m', '10r/m', '2000', 'goo_writes', 5),
-               cost=4, more=('carla SUN',)) as place:
+    few = limited('goo_writes:2m', '10r/m', '2000', 'goo_writes', 5)
+    with Front(changes=few, more=('carla SUN',)) as front:
         def write(user: str) -> int:
-            return post(place, user, command='advance', key='k', day='2025-03-01').status
+            return front.send(user, 'advance', key='k', day='2025-03-01').status
         assert [write('anna') for _ in range(8)] == [403] * 6 + [429] * 2
-        assert ask(place, 'GET', '/v1/audit', 'anna').status == 403
+        assert front.ask('anna', 'GET', '/v1/audit').status == 403
         assert write('carla') == write('bela') == 403
         assert [write('office') for _ in range(8)] == [409] * 8
 
 
 def test_few_bundles_of_a_user_are_taken() -> None:
     """Each may be tried on a copy of the registry's file, and all who write wait for it."""
-    with Place(changes=limited('goo_bundles:2m', '6r/m', '20', 'goo_bundles', 5), cost=4) as place:
+    with Front(changes=limited('goo_bundles:2m', '6r/m', '20', 'goo_bundles', 5)) as front:
         def send(user: str) -> int:
-            return ask(place, 'POST', '/v1/bundles?whole=yes', user, body=b'{}').status
+            return front.ask(user, 'POST', '/v1/bundles?whole=yes', b'{}').status
         assert [send('anna') for _ in range(8)] == [404] * 6 + [429] * 2    # there is no log here
         assert send('bela') == 404
-        assert post(place, 'anna', command='advance', key='k', day='2025-03-01').status == 403
+        assert front.send('anna', 'advance', key='k', day='2025-03-01').status == 403
 
 
 # In a network of its own: the rule on connections, and a server that keeps each one.
@@ -147,7 +142,7 @@ print(json.dumps([len(crowd), connected("127.0.0.3") is not None]))
 @pytest.mark.parametrize(('rule', 'count'), [('etc/nftables/front.nft', 128), ('', 400)])
 def test_an_address_has_128_connections(rule: str, count: int) -> None:
     """Without the rule all 400 come in, so a rule that does nothing is seen."""
-    path = str(HOME / 'service' / rule) if rule else ''
+    path = str(SERVICE / rule) if rule else ''
     out = subprocess.run(['unshare', '-n', sys.executable, '-c', CROWD, path], text=True,
                          capture_output=True, timeout=200, check=False)
     assert json.loads(out.stdout) == [count, True], out
@@ -155,12 +150,12 @@ def test_an_address_has_128_connections(rule: str, count: int) -> None:
 
 # ------------------------------------------------------------------ slow clients
 
-def held(port: int, count: int, text: bytes, place: Place | None = None,
+def held(port: int, count: int, text: bytes, front: Front | None = None,
          room: int | None = None) -> list[socket.socket]:
     """Connections that have sent this, and neither send nor read any more."""
     made = []
     for _ in range(count):
-        made.append(client.connected(port, 60, place.tls() if place else None, room=room))
+        made.append(client.connected(port, 60, front.door.tls() if front else None, room=room))
         made[-1].sendall(text)
     return made
 
@@ -180,10 +175,10 @@ def close(streams: list[socket.socket]) -> None:
         stream.close()
 
 
-def seconds(place: Place, path: str = '/', user: str = 'anna') -> float:
+def seconds(front: Front, path: str = '/', user: str = 'anna') -> float:
     """How long a visitor waits; fails where none is served."""
     begun = time.monotonic()
-    assert ask(place, 'GET', path, user).status == 200
+    assert front.ask(user, 'GET', path).status == 200
     return time.monotonic() - begun
 
 
@@ -194,32 +189,32 @@ PATIENT = (('client_body_timeout       20s', 'client_body_timeout 900s'),
 HALF = request('POST', REQUESTS, 'anna', body=b'x' * 1000)[:-999]
 
 
-def account_of(place: Place) -> str:
+def account_of(front: Front) -> str:
     """The statement of an account of SUN's, which is opened."""
-    post(place, 'office', command='open_holder', key='a1', holder='SUN', name='Sun Power')
-    post(place, 'office', command='open_account', key='a2', holder='SUN')
+    front.send('office', 'open_holder', key='a1', holder='SUN', name='Sun Power')
+    front.send('office', 'open_account', key='a2', holder='SUN')
     return '/v1/accounts/1/statement'
 
 
 def test_half_a_body_holds_up_nobody() -> None:
-    with Place(rate=FAST, changes=PATIENT, cost=4) as place:
-        statement = account_of(place)
-        half = held(place.port, 20, HALF, place)
-        assert seconds(place, statement) < 30
+    with Front(rate=FAST, changes=PATIENT) as front:
+        statement = account_of(front)
+        half = held(front.port, 20, HALF, front)
+        assert seconds(front, statement) < 30
         assert not any(map(is_ended, half))
         close(half)
 
 
 def test_without_buffers_half_a_body_holds_up_all() -> None:
     """So the test before can fail."""
-    with Place(rate=FAST, without='proxy_request_buffering', changes=PATIENT, cost=4) as place:
-        account_of(place)
-        before = place.relay.begun
-        half = held(place.port, 1, HALF, place)
-        assert client.comes(lambda: place.relay.begun > before)
+    with Front(rate=FAST, without='proxy_request_buffering', changes=PATIENT) as front:
+        account_of(front)
+        before = front.relay.begun
+        half = held(front.port, 1, HALF, front)
+        assert client.comes(lambda: front.relay.begun > before)
         with pytest.raises((OSError, AssertionError)):
-            client.answered(place.port, request('GET', '/v1/accounts/1/statement', 'anna'),
-                            patience=4, tls=place.tls())
+            client.answered(front.port, request('GET', '/v1/accounts/1/statement', 'anna'),
+                            patience=4, tls=front.door.tls())
         close(half)
 
 
@@ -228,14 +223,14 @@ def test_an_answer_that_nobody_reads_leaves_the_registry() -> None:
     """The system holds little of it, as it would else take it off the registry by itself."""
     narrow = (' ssl;\n    include', ' ssl sndbuf=8k;\n    include')
     table = b'key,device,first_day,last_day,gross_wh,aux_wh\n' + b'x\n' * 50000
-    with Place(rate=FAST, changes=(*PATIENT, narrow), cost=4) as place:
-        statement = account_of(place)
+    with Front(rate=FAST, changes=(*PATIENT, narrow)) as front:
+        statement = account_of(front)
         text = request('POST', '/v1/declarations', 'office', body=table)
-        before = place.relay.begun
-        unread = held(place.port, 2, text, place, room=4096)
-        assert client.comes(lambda: place.relay.begun == before + 2
-                            and place.relay.under_way == 0, seconds=300)
-        assert seconds(place, statement) < 30
+        before = front.relay.begun
+        unread = held(front.port, 2, text, front, room=4096)
+        assert client.comes(lambda: front.relay.begun == before + 2
+                            and front.relay.under_way == 0, seconds=300)
+        assert seconds(front, statement) < 30
         close(unread)
 
 
@@ -251,10 +246,10 @@ def test_half_sent_beginnings_hold_up_nobody(kind: str, waits: bool) -> None:
     name, begin = KINDS[kind]
     patient = (('client_header_timeout     10s', 'client_header_timeout 900s'),) if waits else ()
     subprocess.run(['prlimit', f'--pid={os.getpid()}', f'--nofile={COUNT + 1000}'], check=True)
-    with Place(rate=FAST, workers=2, changes=patient, cost=4) as place:
-        half = held(getattr(place, name), COUNT, begin)
+    with Front(rate=FAST, workers=2, changes=patient) as front:
+        half = held(getattr(front, name), COUNT, begin)
         if waits:
-            assert seconds(place) < 90
+            assert seconds(front) < 90
             assert not any(map(is_ended, half))
         else:
             assert client.comes(lambda: all(map(is_ended, half)), seconds=50)
@@ -264,21 +259,21 @@ def test_half_sent_beginnings_hold_up_nobody(kind: str, waits: bool) -> None:
 @pytest.mark.slow
 def test_statements_whose_reader_left_hold_up_nobody() -> None:
     """One holder asks for 4,000 runs and leaves, sixty times; few are before the registry."""
-    with Place(cost=4) as place:
-        long_account(place, 2000)
+    with Front() as front:
+        long_account(front, 2000)
         text = request('GET', '/v1/accounts/1/statement', 'anna')
 
         def leave(_: int) -> None:
-            with client.connected(place.port, tls=place.tls()) as stream:
+            with client.connected(front.port, tls=front.door.tls()) as stream:
                 stream.sendall(text)
                 time.sleep(0.9)
         with ThreadPoolExecutor(20) as pool:
             list(pool.map(leave, range(60)))
-        assert seconds(place, '/v1/accounts/2/statement', 'bela') < 300
-        assert place.relay.most <= 3
+        assert seconds(front, '/v1/accounts/2/statement', 'bela') < 300
+        assert front.relay.most <= 3
 
 
-def long_account(place: Place, count: int) -> None:
+def long_account(front: Front, count: int) -> None:
     """An account with twice as many runs: every other certificate is cancelled by itself."""
     device = '500000000000000012'
     lines: list[tuple[str, dict[str, object]]]
@@ -297,8 +292,8 @@ def long_account(place: Place, count: int) -> None:
                        'first': f'07{2 * at + 1:012}', 'last': f'07{2 * at + 1:012}',
                        'use_first': '2025-01-01', 'use_last': '2025-01-31'})
               for at in range(count)]
-    place.stop_registry()
+    front.stop('registry')
     text = ''.join(f'{caller} {json.dumps(body)}\n' for caller, body in lines)
-    subprocess.run([place.goo, 'run', '--db', place.db], input=text, text=True, check=True,
+    subprocess.run([front.goo, 'run', '--db', front.db], input=text, text=True, check=True,
                    capture_output=True)
-    place.start_registry()
+    front.start('registry')

@@ -11,7 +11,7 @@ from goo_service.people.doubts import Device
 from goo_service.people.doubts import Period
 from goo_service.people.doubts import Row
 from goo_service.rules.commands import ISSUER
-from house import SERVICE
+from door import SERVICE
 from house import House
 from hypothesis import given
 from hypothesis import strategies

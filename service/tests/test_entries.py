@@ -12,6 +12,7 @@ from pathlib import Path
 from typing import Any
 
 import pytest
+from goo_service.log import reader
 from goo_service.log import entries
 from goo_service.log.archive import Archive
 from goo_service.log.archive import compress
@@ -197,7 +198,7 @@ def made_archive(folder: Path, count: int, month: str = '03') -> list[bytes]:
 
 
 def numbers(folder: Path, after: int = 0) -> Iterator[int]:
-    return (record.entry.n for record in entries.read_archive(folder, after, KEY))
+    return (record.entry.n for record in reader.read_archive(folder, after, KEY))
 
 
 def test_an_archive_is_read_from_any_entry_on(tmp_path: Path) -> None:

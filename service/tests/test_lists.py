@@ -8,7 +8,7 @@ from dataclasses import field
 from typing import Any
 
 import pytest
-from house import Country
+from calls import Country
 from house import House
 from made_book import page_parameter
 from mutations import gsrn

@@ -13,9 +13,10 @@ from pathlib import Path
 
 import pytest
 
-from house import SERVICE
+from door import SERVICE
 from service_commands import command
 from goo_service.log import ends
+from goo_service.log import reader
 from goo_service.log import entries
 from goo_service.log.archive import Archive
 from goo_service.log.archive import compress
@@ -173,7 +174,7 @@ def test_a_file_with_the_beginning_of_its_first_line_alone_is_emptied(tmp_path: 
     archive.add(entries.entry_line(entry, KEY), entry,
                 entries.outcome_after(entry.route, 200, ACCEPTED % 10, archive.last.outcome.chain))
     close(archive)
-    assert [one.entry.n for one in entries.read_archive(tmp_path, 0, KEY)] == list(range(1, 11))
+    assert [one.entry.n for one in reader.read_archive(tmp_path, 0, KEY)] == list(range(1, 11))
 
 
 def test_the_archive_is_read_up_to_the_damaged_entry(tmp_path: Path) -> None:
@@ -183,7 +184,7 @@ def test_the_archive_is_read_up_to_the_damaged_entry(tmp_path: Path) -> None:
         at = whole.index(line)
         for spot in (at + 3, at + len(line) // 2, at + len(line) - 1):
             file.write_bytes(whole[:spot] + bytes([whole[spot] ^ 4]) + whole[spot + 1:])
-            read = entries.read_archive(tmp_path, 0, KEY)
+            read = reader.read_archive(tmp_path, 0, KEY)
             with pytest.raises(entries.Broken) as told:
                 for n in range(1, 10):
                     assert next(read).entry.n == n < number
@@ -217,7 +218,7 @@ def test_lines_of_eleven_megabytes_are_read_from_the_end(tmp_path: Path) -> None
     assert last_in(tmp_path).entry.n == 2
     plain = ends.last_plain(tmp_path)
     assert plain and plain.entry.n == 1
-    assert [one.entry.n for one in entries.read_archive(tmp_path, 1, KEY)] == [2]
+    assert [one.entry.n for one in reader.read_archive(tmp_path, 1, KEY)] == [2]
     file.write_bytes(whole[:-1000])
     assert last_in(tmp_path).entry.n == 1
 
@@ -230,7 +231,7 @@ def test_the_end_of_a_file_whatever_is_read_of_it(made: Made, size: int) -> None
         kept = whole[:len(whole) - cut]
         lines = kept.count(b'\n')
         made.file.write_bytes(kept)
-        assert ends.last_of(made.file, entries.number_in, size=size)[0] == lines
+        assert ends.last_of(made.file, reader.number_in, size=size)[0] == lines
 
 
 # ------------------------------------------------------------------ a full disk, and two at once
@@ -280,7 +281,7 @@ def test_a_month_or_a_file_that_finds_no_room_leaves_the_one_before(
             with pytest.raises(NoRoom):
                 store.put([line2])
     archive.add(line, first._replace(n=3, time='2026-04-01'), outcome)
-    assert [path.name[:7] for path in entries.months(tmp_path / 'a')] == ['2026-03', '2026-04']
+    assert [path.name[:7] for path in reader.months(tmp_path / 'a')] == ['2026-03', '2026-04']
     store.put([line2])
     assert store.files()[-1].read_bytes() == line + b'\n' + line2 + b'\n'
 

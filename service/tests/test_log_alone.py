@@ -13,11 +13,12 @@ from pathlib import Path
 
 import pytest
 
+from goo_service.log import reader
 from goo_service.log import entries
 from alone import KEY
 from alone import Alone
-from house import SERVICE
-from house import Answer
+from door import SERVICE
+from calls import Answer
 from service_commands import command
 
 HEADER = b'key,device,first_day,last_day,gross_wh,aux_wh\n'
@@ -86,7 +87,7 @@ def test_a_user_s_bytes_of_a_day_are_counted_over_restarts(log: Alone) -> None:
         if sent in (1, 9, 11):
             log.restart()
     lines = (log.state / 'archive').glob('*.jsonl')
-    size = sum(len(line) for path in lines for line, _ in entries.lines(path)
+    size = sum(len(line) for path in lines for line, _ in reader.lines(path)
                if b'"caller":"SUN"' in line)
     assert size <= 16_777_216 < size + 1_334_000
     assert answer.status == 429 and 'SUN' in error_of(answer)
@@ -271,16 +272,13 @@ def test_a_start_on_a_full_disk_with_torn_ends(folder: Path) -> None:
 # ------------------------------------------------------------------ the way of signing in
 
 @pytest.mark.parametrize('over_etcd', [False, True])
-def test_an_entry_names_the_way_and_the_second_user_but_over_etcd(folder: Path,
-                                                                  over_etcd: bool) -> None:
-    """A host of before could read no such entry, and over etcd there may be one."""
+def test_an_entry_names_the_way_and_the_second_user(folder: Path, over_etcd: bool) -> None:
     with Alone(folder, etcd_words=[] if over_etcd else None) as log:
         assert log.ask('POST', '/v1/requests', REQUEST % 1, GOO_User='anna',
                        GOO_Way='token nightly', GOO_Confirmed='ben').status == 200
         assert log.send(REQUEST % 2).status == 200
         named, plain = [record.entry for record in log.records()][-2:]
-        assert (named.user, named.way, named.confirmed) == (
-            ('anna', '', '') if over_etcd else ('anna', 'token nightly', 'ben'))
+        assert (named.user, named.way, named.confirmed) == ('anna', 'token nightly', 'ben')
         assert (plain.way, plain.confirmed) == ('', '')
         log.restart()
         assert log.send(REQUEST % 3).status == 200

@@ -11,6 +11,7 @@ from pathlib import Path
 import client
 import pytest
 from alone import Alone
+from goo_service.log import reader
 from goo_service.log import entries
 from goo_service.log import file_store
 from goo_service.log import position
@@ -20,7 +21,7 @@ from hypothesis import given
 from hypothesis import settings
 from hypothesis import strategies
 from house import House
-from house import read_answer
+from calls import read_answer
 from test_log import KEY
 from test_log import archive_of
 from test_log import entry_of
@@ -64,9 +65,9 @@ def test_a_change_is_told_by_its_number_whatever_was_hashed_anew(tmp_path: Path,
     for changed in (text.replace(right, wrong), hashed_anew(text.replace(right, wrong))):
         file.write_bytes(changed)
         with pytest.raises(entries.Broken, match='entry 5'):
-            list(entries.read_archive(file.parent, 0, KEY))
+            list(reader.read_archive(file.parent, 0, KEY))
     file.write_bytes(hashed_anew(text))
-    assert len(list(entries.read_archive(file.parent, 0, KEY))) == 9, 'nothing was changed here'
+    assert len(list(reader.read_archive(file.parent, 0, KEY))) == 9, 'nothing was changed here'
 
 
 @settings(max_examples=40, deadline=None)
@@ -89,7 +90,7 @@ def test_bodies_of_any_bytes_come_back_over_months(bodies: list[bytes], turn: in
         os.close(archive.file)
         for _ in range(2):
             for after in range(len(bodies) + 1):
-                read = list(entries.read_archive(folder, after, KEY))
+                read = list(reader.read_archive(folder, after, KEY))
                 assert [record.entry.body for record in read] == bodies[after:]
             compress(folder)
 

@@ -5,10 +5,11 @@ import subprocess
 from pathlib import Path
 from typing import Any
 
+from goo_service.log import reader
 from goo_service.log import entries
 import pytest
-from house import SERVICE
-from house import Answer
+from door import SERVICE
+from calls import Answer
 from house import House
 from service_commands import command
 
@@ -18,7 +19,7 @@ TOMORROW = (datetime.date.today() + datetime.timedelta(1)).isoformat()
 
 
 def archived(house: House) -> list[entries.Record]:
-    return list(entries.read_archive(house.state / 'archive'))
+    return list(reader.read_archive(house.state / 'archive'))
 
 
 def error_of(answer: Answer) -> str:

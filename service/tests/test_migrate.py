@@ -36,7 +36,7 @@ from goo_service.records.questions import NotFound
 from goo_service.records.questions import Viewer
 from client import comes
 from house import House
-from house import SERVICE
+from door import SERVICE
 from migrating import ASSIGNED
 from migrating import checked
 from migrating import copied
@@ -96,11 +96,16 @@ def test_the_result_passes_a_recount(rehearsed: Path, tmp_path: Path) -> None:
      'ORDER BY first LIMIT 1)', 'in the registry, and not so in the tables'),
     ('INSERT INTO piece SELECT last + 100, last + 105, lot, kind, account, act FROM piece '
      'ORDER BY last DESC LIMIT 1', 'in the registry, and not so in the tables'),
+    ('INSERT INTO piece SELECT 7000000000001, 7000000000005, lot, kind, account, act FROM piece '
+     'LIMIT 1', 'in the registry, and not so in the tables: 07000000000001'),
     ("UPDATE lot SET site = 'Elsewhere' WHERE id = 1", 'Elsewhere'),
     ("UPDATE holder SET name = 'Nobody' WHERE code = 'H00001'", 'Nobody'),
     ('UPDATE device SET capacity_w = 7 WHERE gsrn = (SELECT min(gsrn) FROM device)', 'devices'),
     ('DELETE FROM piece WHERE first = (SELECT max(first) FROM piece)', 'in the tables, and not'),
-    ("UPDATE account SET holder = 'H00001' WHERE number = 1", 'accounts 1')])
+    ("UPDATE account SET holder = 'H00001' WHERE number = 1", 'accounts 1'),
+    ('UPDATE account SET closed = 1 WHERE number = 8', 'accounts 8'),
+    ("UPDATE device SET last_day = '2025-03-31', carry = 5 WHERE gsrn = "
+     '(SELECT min(gsrn) FROM device)', 'declared to 2025-03-31 5')])
 def test_a_difference_in_the_result_is_told(rehearsed: Path, tmp_path: Path, change: str,
                                             told: str) -> None:
     place = copied(rehearsed, tmp_path)
@@ -123,13 +128,14 @@ def test_the_sums_are_those_of_the_tables(rehearsed: Path) -> None:
         count, (_, _, _, country, tech, *_) = int(last) - int(first) + 1, devices[device]
         wanted[deadlines[last_day]] += count
         wanted[f'{tech} {first_day[:7]} {country}'] += count
-        wanted[f'{account_numbers(tables)[account]} {device} {first_day}'] += count
+        wanted[f'{account_numbers(tables)[account]} 8 {device} {first_day}'] += count
+        wanted['8'] += count
     for name in ('sums-tables', 'sums-registry'):
         lines = (rehearsed / name).read_text(encoding='utf-8').splitlines()
         found = {key: int(count) for key, _, count in (line.rpartition(' ') for line in lines
                                                        if not line.startswith(('by ', 'cert')))}
         assert found == wanted
-        assert lines[0].startswith(f'certificates {wanted.total() // 3} in ')
+        assert lines[0].startswith(f'certificates {wanted.total() // 4} in ')
 
 
 def account_numbers(tables: old_registry.Tables) -> dict[str, int]:
@@ -197,6 +203,9 @@ def test_an_account_has_its_number_in_the_plan(rehearsed: Path) -> None:
     steps = list(sending.steps_in(rehearsed))
     replies = [step.reply['account'] for step in steps if step.body['command'] == 'open_account']
     assert replies == list(range(1, 9))
+    numbers = account_numbers(old_registry.read_tables(rehearsed))
+    _, *rows = (rehearsed / plan.ACCOUNTS).read_text(encoding='utf-8').splitlines()
+    assert {row.split(',')[4]: int(row.split(',')[2]) for row in rows} == numbers
     keys = [step.body['key'] for step in steps]
     assert len(set(keys)) == len(keys) and all(len(key) <= 40 for key in keys)
     parts = [len(step.body['notice']['parts']) for step in steps
@@ -211,17 +220,16 @@ def test_numbers_that_are_assigned_are_found_both_ways(folder: Path) -> None:
     assert differences_of(folder, read) == []
     first, last, device, first_day, *_, account = old_registry.read_tables(folder)['stock'][50]
     old = f'{int(last):014}'
-    by_old = enquiry.by_old_number(folder, read, old)
-    assert by_old and (by_old.device, by_old.first_day) == (device, first_day)
+    by_old, = enquiry.by_old_number(folder, read, old)
+    assert (by_old.device, by_old.first_day) == (device, first_day)
     assert (by_old.old_first, by_old.old_account) == (first, account)
-    by_new = enquiry.by_new_number(folder, f'{by_old.number:014}')
-    assert by_new == by_old
+    assert enquiry.by_new_number(folder, f'{by_old.number:014}') == [by_old]
     with closing(sqlite3.connect(folder / 'rehearsal/registry.db')) as database:
         row = database.execute('SELECT l.device, l.first_day, p.account FROM piece AS p '
                                'JOIN lot AS l ON l.id = p.lot WHERE ? BETWEEN p.first AND p.last',
                                (by_old.number,)).fetchone()
     assert row == (device, first_day, by_old.account)
-    assert enquiry.by_old_number(folder, read, old_registry.number(10 ** 9)) is None
+    assert enquiry.by_old_number(folder, read, old_registry.number(10 ** 9)) == []
 
 
 def test_the_carried_energy_is_in_a_list(rehearsed: Path) -> None:
@@ -243,12 +251,15 @@ def key(tmp_path: Path) -> Key:
 def test_a_protocol_is_verified_with_its_files(rehearsed: Path, tmp_path: Path, key: Key) -> None:
     place = copied(rehearsed, tmp_path)
     read = settings.read(place)
-    found = compare(place, read, place / 'rehearsal/registry.db')
-    protocol.write(place, read, found, key)
+    registry = place / 'rehearsal/registry.db'
+    found = compare(place, read, registry)
+    protocol.write(place, read, found, registry, key)
     assert protocol.faults(place, None) == [] == protocol.faults(place, key.public)
     said = json.loads((place / protocol.NAME).read_text(encoding='utf-8'))
     assert said['differences'] == 0
     assert said['sums of the tables'] == said['sums of the registry']
+    assert said['copy of the registry'] == {
+        'path': str(registry), 'SHA-256': hashlib.sha256(registry.read_bytes()).hexdigest()}
     with (place / 'tables/stock.csv').open('a', encoding='utf-8') as file:
         file.write('\n')
     assert protocol.faults(place, key.public) == [
@@ -259,10 +270,23 @@ def test_a_protocol_is_verified_with_its_files(rehearsed: Path, tmp_path: Path, 
     assert 'is not signed' in protocol.faults(place, None)[0]
 
 
+def test_a_protocol_that_tells_of_a_difference_does_not_hold(rehearsed: Path, tmp_path: Path,
+                                                             key: Key) -> None:
+    place = copied(rehearsed, tmp_path)
+    registry, read = place / 'rehearsal/registry.db', settings.read(place)
+    with closing(sqlite3.connect(registry)) as database, database:
+        database.execute('DELETE FROM piece WHERE first = (SELECT max(first) FROM piece)')
+    found = compare(place, read, registry)
+    protocol.write(place, read, found, registry, key)
+    assert found.count > 1 and protocol.faults(place, key.public) == [
+        f'{found.count} differences between the tables and the registry']
+
+
 def test_a_protocol_of_another_key_is_refused(rehearsed: Path, tmp_path: Path, key: Key) -> None:
     place = copied(rehearsed, tmp_path)
     read = settings.read(place)
-    protocol.write(place, read, compare(place, read, place / 'rehearsal/registry.db'), key)
+    registry = place / 'rehearsal/registry.db'
+    protocol.write(place, read, compare(place, read, registry), registry, key)
     other = Ed25519PrivateKey.generate()
     (tmp_path / 'other.key').write_bytes(other.private_bytes(
         Encoding.PEM, PrivateFormat.PKCS8, NoEncryption()))

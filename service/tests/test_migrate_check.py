@@ -1,5 +1,7 @@
 """The tables of an old registry are judged: every fault is told by its table, row and field."""
 import json
+import subprocess
+import tomllib
 from collections.abc import Callable
 from pathlib import Path
 
@@ -14,10 +16,12 @@ from goo_service.migrate import settings
 from goo_service.migrate import tables
 from goo_service.migrate.numbers import NoRange
 from goo_service.migrate.numbers import Reader
+from door import SERVICE
 from migrating import ASSIGNED
 from migrating import checked
 from migrating import names_in
 from mutations import gsrn
+from service_commands import command
 
 Change = Callable[[bytes], bytes]
 NAMES = [planted.name for planted in old_registry.PLANTED]
@@ -142,6 +146,14 @@ def test_wrong_settings_are_told(folder: Path, text: str, reason: str) -> None:
         settings.read(folder)
 
 
+def test_the_settings_that_are_printed_are_such() -> None:
+    done = subprocess.run([*command('goo-migrate', SERVICE), 'settings'], capture_output=True,
+                          text=True, check=True)
+    read = settings.settings_of(tomllib.loads(done.stdout))
+    assert (read.old_code, read.new_code, read.words['registries']) == (8, 7, {'ES': '34'})
+    assert 'deadline stock' in read.waivers
+
+
 def test_the_body_says_what_becomes_of_carried_energy(folder: Path) -> None:
     """Nothing is chosen for it; without carried.csv there is nothing to choose."""
     silent = old_registry.SETTINGS.replace('[carry]\nchoice = "added"\n', '')
@@ -170,7 +182,8 @@ def test_the_forms_of_old_numbers(tmp_path: Path) -> None:
     assert assigned.range(one, one).first is None
     with pytest.raises(NoRange):
         assigned.range(one, other)
-    for text in ('07000000000007', '8000000000007', '08000000000000', '0800000000000७', ''):
+    assert own.range('07000000000007', '07000000000007').other == 7
+    for text in ('00000000000007', '8000000000007', '08000000000000', '0800000000000७', ''):
         with pytest.raises(NoRange):
             own.range(text, text)
 

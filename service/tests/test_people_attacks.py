@@ -14,8 +14,8 @@ import pytest
 from goo_service.people import fresh
 from goo_service.people.passwords import Passwords
 from goo_service.people.store import changing
-from house import Answer
-from house import Country
+from calls import Answer
+from calls import Country
 from house import House
 from house_people import Signed
 from house_people import word_of

@@ -9,7 +9,7 @@ from pathlib import Path
 import pytest
 from goo_service.copies import people
 from goo_service.people import store
-from house import SERVICE
+from door import SERVICE
 from people_stage import Stage
 from service_commands import command
 
@@ -93,7 +93,7 @@ def test_a_damaged_file_is_put_back_from_a_copy(stage: Stage, tmp_path: Path) ->
     aside = list(stage.path.parent.glob('people.db.before-*'))
     assert len(aside) == 1 and aside[0].read_bytes().startswith(b'damaged')
     fresh = Stage(stage.path)
-    assert fresh.ask(session=session).status[:3] == '401'
+    assert fresh.ask(session=session).status == 401
     fresh.sign_in()
 
 

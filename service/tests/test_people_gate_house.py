@@ -7,12 +7,13 @@ from collections.abc import Iterator
 from typing import Any
 
 import pytest
+from goo_service.log import reader
 from goo_service.log import entries
 from goo_service.log import reversal
 from fake_log import FakeLog
 from fake_log import comes
-from house import Answer
-from house import Country
+from calls import Answer
+from calls import Country
 from house import House
 from house_people import Signed
 
@@ -59,7 +60,7 @@ def bearer(house: House, token: str, method: str, path: str, body: object = '') 
 
 def entry_of(house: House, number: int | None) -> entries.Entry:
     assert number
-    return next(entries.read_archive(house.state / 'archive', number - 1)).entry
+    return next(reader.read_archive(house.state / 'archive', number - 1)).entry
 
 
 def confirmed(house: House, request: dict[str, Any]) -> Any:
@@ -216,7 +217,7 @@ def test_a_replay_takes_entries_with_a_way_and_a_second_user(house: House,
 def test_what_is_sent_again_after_a_reversal_keeps_its_way_and_its_second_user(
         house: House, country: Country) -> None:
     assert confirmed(house, transfer(country, 's1', 430, 101))['status'] == 200
-    records = [record for record in entries.read_archive(house.state / 'archive')
+    records = [record for record in reader.read_archive(house.state / 'archive')
                if record.entry.confirmed]
     with FakeLog(house.folder / 'fake.sock') as log:
         sent = list(reversal.send(str(log.path), iter(records)))

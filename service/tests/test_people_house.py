@@ -89,19 +89,17 @@ def test_a_cookie_that_was_planted_is_never_signed_in(house: House) -> None:
 
 def test_a_certificate_signs_in_beside_sessions() -> None:
     """`ssl_verify_client optional`: whoever has no certificate signs in by the page."""
-    made = House(people=True, parts=('web', 'nginx'),
-                 changes=[('# ssl_verify_client      on;', '# ssl_verify_client      optional;')])
-    made.door.certificates = True
-    with made as house:
+    with House(people=True, parts=('web', 'nginx'), certificates=True, changes=[
+            ('# ssl_verify_client      on;', '# ssl_verify_client      optional;')]) as house:
         with house.people.open() as db, changing(db):
             users.make(db, ROOT, New('CN=office,O=Trial', 'ISSUER', 'officer',
                                      source='certificate'))
-        asked = functools.partial(house.door.ask, None, 'GET', AUDIT)
-        assert asked(certificate='office')[0] == 200
-        assert asked(certificate='anna')[0] == 401, 'no user has this name'
-        assert asked()[0] == 401
-        assert asked(certificate='office', Cookie='goo_signed_out=yes')[0] == 401
-        assert asked(GOO_Subject='CN=office,O=Trial')[0] == 401
+        asked = functools.partial(house.ask, None, 'GET', AUDIT)
+        assert asked(certificate='office').status == 200
+        assert asked(certificate='anna').status == 401, 'no user has this name'
+        assert asked().status == 401
+        assert asked(certificate='office', Cookie='goo_signed_out=yes').status == 401
+        assert asked(GOO_Subject='CN=office,O=Trial').status == 401
         assert house.people.sign_in('office').ask('GET', AUDIT).status == 200
 
 

@@ -119,7 +119,7 @@ def test_a_key_may_be_the_first_factor(stage: Stage) -> None:
     key = SoftwareKey()
     came = add(stage, half, key)
     assert stage.ask(session=came.cookies['__Host-goo']).entry == 'SUN full'
-    assert stage.ask(session=half).status[:3] == '401'
+    assert stage.ask(session=half).status == 401
     assert signed_in(stage, key).status == 200
     other = stage.post('sign-in', {'user': 'anna', 'password': PASSWORD, 'code': '000000'})
     assert other.status == 401

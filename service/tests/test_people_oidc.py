@@ -177,7 +177,7 @@ def test_root_has_a_user_sign_in_by_the_provider(stage: Stage, provider: Provide
     assert is_refused(Browser(stage).sign_in())
     with stage.open() as db:
         use_provider(db, 'host')
-    assert stage.ask(session=session).status[:3] != '204'
+    assert stage.ask(session=session).status != 204
     assert stage.post('sign-in', {'user': 'host', 'password': PASSWORD}).status == 401
     assert is_in(Browser(stage).sign_in())
     provider.user = Person('sub-3', 'host')

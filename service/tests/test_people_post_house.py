@@ -15,8 +15,8 @@ from goo_service.people import users
 from goo_service.people.acts import ROOT
 from goo_service.people.store import changing
 from goo_service.people.users import New
-from house import Answer
-from house import Country
+from calls import Answer
+from calls import Country
 from house import House
 from oidc_provider import CLIENT
 from oidc_provider import SECRET

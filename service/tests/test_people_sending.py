@@ -37,6 +37,9 @@ from people_post import serve_records
 from test_people_hooks import Receiver
 
 FIELDS: dict[str, object] = {'certificates': 3, 'accounts': [4], 'day': '2026-03-31'}
+DECEMBER = OWN + 200
+"""The certificates of December 2025 come after it. No deadline of theirs is near: of January's one
+is, and is told to whoever has them when the post looks."""
 
 
 @pytest.fixture
@@ -84,7 +87,8 @@ def test_what_happened_comes_by_mail_in_the_readers_language(own_post: Post,
     next(records)
     own_post.start()
     comes(lambda: 'acts after entry' in own_post.text)
-    made.must('SUN', 'transfer', giver=1, taker=2, first=f'{OWN + 1:014}', last=f'{OWN + 10:014}')
+    made.must('SUN', 'transfer', giver=1, taker=2, first=f'{DECEMBER + 1:014}',
+              last=f'{DECEMBER + 10:014}')
     comes(lambda: [str(mail['Subject']) for mail in mailer.to('carl')]
           == ['Eingang: 10 Nachweise'])
     comes(lambda: 'Sent: 10 certificates' in mailer.subjects)
@@ -223,8 +227,8 @@ def test_killed_between_the_mailers_yes_and_the_row(own_post: Post, mailer: Mail
     assert reached.wait(60)
     own_post.kill()
     own_post.start()
-    comes(lambda: len(mailer.came) == 2)
-    assert own_post.count('sent IS NULL') == 1, 'the try of before is forgotten'
+    comes(lambda: own_post.count('sent IS NOT NULL') == 1)
+    assert len(set(mailer.ids)) == 2, 'the try of before is forgotten'
     own_post.hurry()
     comes(lambda: len(mailer.came) == 3 and all_sent(own_post))
     first, _, again = mailer.ids

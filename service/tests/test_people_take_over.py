@@ -9,7 +9,7 @@ import bcrypt
 import pytest
 from goo_service.people import users
 from goo_service.people.store import now
-from house import SERVICE
+from door import SERVICE
 from people_stage import PASSWORD
 from people_stage import Stage
 from service_commands import command
@@ -84,42 +84,42 @@ def test_a_password_signs_in_on_the_page_and_is_kept_anew(stage: Stage) -> None:
     kept = stage.rows("SELECT password FROM user WHERE name = 'office'")[0]['password']
     assert kept.startswith('$argon2id$')
     assert stage.post('sign-in', {'user': 'office', 'password': 'pw-offic'}).status == 401
-    assert stage.ask(authorization=basic('office', 'pw-office')).status[:3] == '401'
+    assert stage.ask(authorization=basic('office', 'pw-office')).status == 401
 
 
 def test_a_program_signs_in_by_basic_until_its_day(stage: Stage) -> None:
     take_over(stage, '--programs-until', '2099-12-31')
     shown = basic('registry09', 'pw-registry09')
     of = stage.ask(authorization=shown)
-    assert (of.status[:3], of.entry, of.way, of.hold) == ('204', 'peer 09', 'password', '')
-    assert stage.ask(authorization=basic('registry09', 'wrong')).status[:3] == '401'
-    assert stage.ask(authorization=basic('anna', 'pw-anna')).status[:3] == '401'
+    assert (of.status, of.entry, of.way, of.hold) == (204, 'peer 09', 'password', '')
+    assert stage.ask(authorization=basic('registry09', 'wrong')).status == 401
+    assert stage.ask(authorization=basic('anna', 'pw-anna')).status == 401
     with stage.change() as db:
         db.execute('UPDATE user SET ended = 1 WHERE name = ?', ('registry09',))
-    assert stage.ask(authorization=shown).status[:3] == '401'
+    assert stage.ask(authorization=shown).status == 401
     with stage.change() as db:
         db.execute('UPDATE user SET ended = NULL, basic_until = ?', (now(),))
-    assert stage.ask(authorization=shown).status[:3] == '401'
+    assert stage.ask(authorization=shown).status == 401
 
 
 def test_a_changed_password_of_a_program_holds_at_once(stage: Stage) -> None:
     take_over(stage)
     shown = basic('registry09', 'pw-registry09')
-    assert stage.ask(authorization=shown).status[:3] == '204'
+    assert stage.ask(authorization=shown).status == 204
     with stage.change() as db:
         db.execute('UPDATE user SET password = ?', (old_hash('another one'),))
-    assert stage.ask(authorization=shown).status[:3] == '401'
+    assert stage.ask(authorization=shown).status == 401
 
 
 def test_guesses_by_basic_are_few(stage: Stage) -> None:
     """Each costs a comparison, whatever the name. A program that is known goes on."""
     take_over(stage)
     right = basic('registry09', 'pw-registry09')
-    assert stage.ask(authorization=right).status[:3] == '204'
-    statuses = [stage.ask(authorization=basic(f'nobody{at}', 'guess')).status[:3]
+    assert stage.ask(authorization=right).status == 204
+    statuses = [stage.ask(authorization=basic(f'nobody{at}', 'guess')).status
                 for at in range(40)]
-    assert statuses[:19] == ['401'] * 19 and statuses[-1] == '429'
-    assert stage.ask(authorization=right).status[:3] == '204'
+    assert statuses[:19] == [401] * 19 and statuses[-1] == 429
+    assert stage.ask(authorization=right).status == 204
 
 
 def test_taken_over_twice_is_taken_over_once(stage: Stage) -> None:
@@ -177,7 +177,7 @@ def test_root_resets_a_user(stage: Stage) -> None:
     stage.make_user()
     session = stage.sign_in()
     secret = secret_in(on_host(stage, 'user', 'reset', 'anna'))
-    assert stage.ask(session=session).status[:3] == '401'
+    assert stage.ask(session=session).status == 401
     assert stage.post('sign-in', {'user': 'anna', 'password': PASSWORD}).status == 401
     came = stage.post('accept', {'invitation': secret, 'password': 'another ' + PASSWORD})
     assert came.status == 200, came
@@ -211,7 +211,7 @@ def test_root_makes_a_token_for_a_program(stage: Stage) -> None:
                                 ('meter', 'ISSUER declares', 'POST')):
         token = on_host(stage, 'user', 'token', name).stdout.split('\n')[0]
         of = stage.ask(authorization=f'Bearer {token}', method=method)
-        assert (of.status[:3], of.user, of.entry) == ('204', name, entry)
+        assert (of.status, of.user, of.entry) == (204, name, entry)
     assert on_host(stage, 'user', 'add', 'registry08', '08', 'peer').returncode == 0
     assert on_host(stage, 'user', 'add', 'eva', 'ISSUER', 'officer', '--provider').returncode == 0
     assert stage.rows("SELECT source FROM user WHERE name = 'eva'") == [{'source': 'oidc'}]

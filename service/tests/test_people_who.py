@@ -7,7 +7,6 @@ from goo_service.people import csrf
 from goo_service.people import secret
 from goo_service.people import store
 from goo_service.people import users
-from goo_service.people import who
 from goo_service.people.acts import ROOT
 from goo_service.people.store import now
 from hypothesis import HealthCheck
@@ -48,7 +47,7 @@ def test_a_role_has_its_entry(stage: Stage, caller: str, role: str, access: str,
                               entry: str) -> None:
     user = stage.make_user('anna', caller, role, access=access)
     of = stage.ask(authorization=basic('anna', make_token(stage, user.id)))
-    assert (of.status[:3], of.user, of.entry) == ('204', 'anna', entry)
+    assert (of.status, of.user, of.entry) == (204, 'anna', entry)
     assert (of.way, of.hold) == ('token programs', 't1')
 
 
@@ -61,7 +60,7 @@ def test_a_scope_narrows_the_entry(stage: Stage, role: str, scope: str, entry: s
     token = make_token(stage, user.id, scope)
     assert stage.ask(authorization=f'Bearer {token}', method='POST').entry == entry
     read = stage.ask(authorization=f'Bearer {token}')
-    assert read.status[:3] == ('204' if 'r' in scope else '403')
+    assert read.status == (204 if 'r' in scope else 403)
 
 
 def test_accounts_that_a_user_may_read(stage: Stage) -> None:
@@ -86,18 +85,18 @@ def test_a_token_is_refused_at_once(stage: Stage) -> None:
     stage.make_user('bela', 'VOLT')
     token = make_token(stage, user.id)
     shown = f'Bearer {token}'
-    assert stage.ask(authorization=shown).status[:3] == '204'
-    assert stage.ask(authorization=basic('ANNA', token)).status[:3] == '204'
-    assert stage.ask(authorization=basic('bela', token)).status[:3] == '401'
+    assert stage.ask(authorization=shown).status == 204
+    assert stage.ask(authorization=basic('ANNA', token)).status == 204
+    assert stage.ask(authorization=basic('bela', token)).status == 401
     for table, change, back in (('token', 'revoked = 1', 'revoked = NULL'),
                                 ('token', 'ends = ends - 3601', 'ends = ends + 3601'),
                                 ('user', 'ended = 1', 'ended = NULL')):
         with stage.change() as db:
             db.execute(f'UPDATE {table} SET {change}')
-        assert stage.ask(authorization=shown).status[:3] == '401', change
+        assert stage.ask(authorization=shown).status == 401, change
         with stage.change() as db:
             db.execute(f'UPDATE {table} SET {back}')
-        assert stage.ask(authorization=shown).status[:3] == '204', back
+        assert stage.ask(authorization=shown).status == 204, back
 
 
 @pytest.mark.parametrize('shown', [
@@ -107,7 +106,7 @@ def test_a_token_is_refused_at_once(stage: Stage) -> None:
 def test_what_is_no_token_is_refused(stage: Stage, shown: str) -> None:
     """A person's password is none, and what is wrong here is not made good by a session."""
     stage.make_user()
-    assert stage.ask(authorization=shown, session=stage.sign_in()).status[:3] == '401'
+    assert stage.ask(authorization=shown, session=stage.sign_in()).status == 401
 
 
 @given(some.text(some.characters(min_codepoint=32, max_codepoint=255), max_size=200))
@@ -115,7 +114,7 @@ def test_what_is_no_token_is_refused(stage: Stage, shown: str) -> None:
 def test_nothing_that_is_shown_fails(stage: Stage, shown: str) -> None:
     for authorization, session in ((shown, ''), (f'Bearer {shown}', ''), (f'Basic {shown}', ''),
                                    (basic(shown, shown), ''), ('', shown)):
-        assert stage.ask(authorization=authorization, session=session).status[:3] == '401'
+        assert stage.ask(authorization=authorization, session=session).status == 401
 
 
 @pytest.mark.parametrize('method', ['POST', 'PUT', 'DELETE', 'PATCH', 'OPTIONS', ''])
@@ -123,9 +122,9 @@ def test_a_session_that_changes_something_sends_its_word_along(stage: Stage, met
     stage.make_user()
     one, other = stage.sign_in(), stage.sign_in()
     word, foreign = (stage.get('me', of).json['csrf'] for of in (one, other))
-    assert stage.ask(session=one, method=method, csrf=word).status[:3] == '204'
+    assert stage.ask(session=one, method=method, csrf=word).status == 204
     for wrong in ('', foreign, word[:-1], word + 'x', 'ä', word.upper()):
-        assert stage.ask(session=one, method=method, csrf=wrong).status[:3] == '403', wrong
+        assert stage.ask(session=one, method=method, csrf=wrong).status == 403, wrong
 
 
 def test_a_word_is_of_its_file_alone(stage: Stage) -> None:
@@ -146,7 +145,7 @@ def test_the_word_of_an_ended_session_is_of_no_later_one(stage: Stage) -> None:
     stage.post('sign-out', {}, session=before)
     after = stage.sign_in()
     assert stage.ask(session=after).hold == hold
-    assert stage.ask(session=after, method='POST', csrf=word).status[:3] == '403'
+    assert stage.ask(session=after, method='POST', csrf=word).status == 403
 
 
 def test_a_certificate_is_a_user_by_its_whole_name(stage: Stage) -> None:
@@ -155,10 +154,10 @@ def test_a_certificate_is_a_user_by_its_whole_name(stage: Stage) -> None:
         users.make(db, ROOT,
                    users.New(name, 'ISSUER', 'officer', source='certificate'))
     of = stage.ask(subject=name)
-    assert (of.status[:3], of.user, of.entry, of.way) == ('204', name, 'ISSUER full', 'certificate')
+    assert (of.status, of.user, of.entry, of.way) == (204, name, 'ISSUER full', 'certificate')
     stage.make_user('CN=bela')
     for other in ('CN=ANNA,O=Sun Power', 'CN=anna', f'{name},C=DE', '', 'CN=bela'):
-        assert stage.ask(subject=other).status[:3] == '401', other
+        assert stage.ask(subject=other).status == 401, other
 
 
 def test_the_last_use_is_noted_once_a_minute(stage: Stage) -> None:
@@ -179,26 +178,5 @@ def test_the_question_is_answered_while_another_one_writes(stage: Stage) -> None
     token = f'Bearer {make_token(stage, user.id)}'
     with stage.change() as db:
         db.execute('UPDATE user SET mail = NULL')
-        assert stage.ask(authorization=token).status[:3] == '204'
+        assert stage.ask(authorization=token).status == 204
     assert stage.rows('SELECT used FROM token')[0]['used'] is None
-
-
-def test_the_answer_over_wsgi(stage: Stage) -> None:
-    user = stage.make_user()
-    told: list[tuple[str, list[tuple[str, str]]]] = []
-    ask = who.application(stage.path)
-    shown = {'HTTP_AUTHORIZATION': f'Bearer {make_token(stage, user.id)}', 'HTTP_GOO_METHOD': 'GET'}
-    nothing: dict[str, str] = {}
-    for environment in (shown, nothing):
-        assert list(ask(environment, lambda status, fields: told.append((status, fields)))) == []
-    assert told == [
-        ('204 No Content', [('GOO-User', 'anna'), ('GOO-Entry', 'SUN full'),
-                            ('GOO-Way', 'token programs'), ('GOO-Hold', 't1')]),
-        ('401 Unauthorized', [])]
-
-
-def test_a_file_that_is_not_there_is_told(tmp_path: Path) -> None:
-    told: list[str] = []
-    ask = who.application(tmp_path / 'none.db')
-    list(ask({'HTTP_COOKIE': '__Host-goo=' + 'x' * 43}, lambda status, _: told.append(status)))
-    assert told == ['503 Service Unavailable']

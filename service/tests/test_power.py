@@ -19,17 +19,18 @@ from pathlib import Path
 from typing import Any
 
 import client
+from goo_service.log import reader
 from goo_service.log import entries
 import pytest
 from disk import Call
 from disk import Disk
 from disk import read_trace
 from disk import watch
-from house import Answer
-from house import Country
+from calls import Answer
+from calls import Country
 from house import House
-from house import ISSUER
-from house import read_answer
+from calls import ISSUER
+from calls import read_answer
 from parts import NotStarted
 from parts import Part
 from plants import append
@@ -233,7 +234,7 @@ def start_over(house: House, files: dict[Path, bytes]) -> None:
 
 def compare(house: House, told: dict[int, Asked], fresh: Fresh) -> None:
     """All that was acknowledged is in the archive and in the registry, and no other row is."""
-    archive = {record.entry.n: record for record in entries.read_archive(house.state / 'archive')}
+    archive = {record.entry.n: record for record in reader.read_archive(house.state / 'archive')}
     for n, asked in told.items():
         record = archive.get(n)
         if not record or record.entry.body != asked.body:

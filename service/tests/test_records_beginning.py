@@ -5,7 +5,7 @@ import subprocess
 from pathlib import Path
 
 import pytest
-from house import SERVICE
+from door import SERVICE
 from service_commands import command
 from house import House
 from made_book import CODE

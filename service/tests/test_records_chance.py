@@ -30,11 +30,12 @@ from acts_by_chance import follow
 from archives import make_archive
 from client import answered
 from client import request
+from goo_service.log import reader
 from goo_service.log import entries
 from goo_service.records import acts as acts_module
 from goo_service.rules.certificates import PLACES
 from goo_service.rules.commands import ISSUER
-from loopback import program
+from programs import find_registry
 import viewers
 from viewers import has_text
 
@@ -85,10 +86,10 @@ def made(tmp_path_factory: pytest.TempPathFactory, pytestconfig: pytest.Config) 
     seed, acts = pytestconfig.getoption('--seed'), pytestconfig.getoption('--acts')
     print(f'seed {seed}')
     truth: list[Truth] = []
-    make_archive(program(), folder / 'archive', Requests(seed).all(acts), code=CODE, today=TODAY,
-                 then=lambda port: truth.append(Truth(port)))
+    make_archive(find_registry(), folder / 'archive', Requests(seed).all(acts), code=CODE,
+                 today=TODAY, then=lambda port: truth.append(Truth(port)))
     follow(folder / 'archive', folder / 'book')
-    records = list(entries.read_archive(folder / 'archive'))
+    records = list(reader.read_archive(folder / 'archive'))
     return Made(Service(folder / 'book'), records, truth[0])
 
 

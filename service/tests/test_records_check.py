@@ -14,7 +14,7 @@ from typing import Any
 import client
 import pytest
 from goo_service.copies import contents
-from goo_service.log import entries
+from goo_service.log import reader
 from goo_service.records import check
 from goo_service.records import follow
 from goo_service.records import schema
@@ -84,7 +84,7 @@ def night(tmp_path_factory: pytest.TempPathFactory) -> Night:
     requests: list[tuple[Any, ...]] = list(Requests(4).all(150))
     make_archive(GOO, folder / 'archive', requests, CODE, TODAY)
     entry = len(requests) - SINCE
-    record = next(entries.read_archive(folder / 'archive', after=entry - 1))
+    record = next(reader.read_archive(folder / 'archive', after=entry - 1))
     write_copy(folder / 'copies/2026-03-01T023000Z', requests[:entry], record.hash)
     follow_all(folder)
     return Night(folder, entry, len(requests))

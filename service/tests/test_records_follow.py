@@ -16,6 +16,7 @@ from types import FrameType
 from typing import Any
 
 import pytest
+from goo_service.log import reader
 from goo_service.log import entries
 from goo_service.records import book
 from goo_service.records import follow
@@ -40,7 +41,7 @@ def words(folder: Path, archive: Path, **more: Any) -> argparse.Namespace:
 
 
 def lines_of(archive: Path) -> list[bytes]:
-    return [line for path in entries.months(archive) for line, _ in entries.lines(path)]
+    return [line for path in reader.months(archive) for line, _ in reader.lines(path)]
 
 
 def write_archive(folder: Path, lines: list[bytes]) -> Path:
@@ -125,7 +126,7 @@ def test_a_start_reads_the_new_entries_alone(tmp_path: Path,
     monkeypatch.setattr(book.Book, 'apply', apply)
     follow.follow(words(tmp_path / 'book', longer))
     assert applied == list(range(10_001, 10_008))
-    assert len({entries.number_in(line) for line in read} - set(applied)) <= 2
+    assert len({reader.number_in(line) for line in read} - set(applied)) <= 2
     assert len(read) <= len(applied) + 3
 
 

@@ -21,7 +21,7 @@ import client
 import pytest
 from cases import Case
 from cases import cases_in
-from loopback import HOME
+from door import TOP
 from recounted import EACH_COMMAND
 from recounted import Files
 from recounted import HOLDERS
@@ -106,7 +106,7 @@ def test_texts_are_those_that_the_program_prints(files: Files, db: Path) -> None
 
 
 def test_holdings_are_those_that_the_documents_show(files: Files) -> None:
-    page = (HOME / 'docs/FORMATS.md').read_text()
+    page = (TOP / 'docs/FORMATS.md').read_text()
     shown = re.search(r'(?s)## The holdings of an account as CSV\n.*?```\n(.*?)```', page)
     winter = [one for one in EACH_COMMAND if one[1]['command'] == 'declare'
               and one[1]['device'] == SUNNY][:2]

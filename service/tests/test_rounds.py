@@ -19,7 +19,6 @@ from collections.abc import Iterator
 from dataclasses import dataclass
 from typing import Any
 
-import loopback
 import pytest
 from bodies import CARRIERS
 from bodies import DRAINS
@@ -30,6 +29,7 @@ from bodies import Run
 from bodies import assert_recounted
 from bodies import drain
 from bodies import homes
+from front import Front
 from readings import compact
 
 pytestmark = pytest.mark.slow
@@ -55,7 +55,7 @@ class Two:
 def two(pytestconfig: pytest.Config) -> Iterator[Two]:
     seed = pytestconfig.getoption('--seed')
     print(f'seed {seed}')
-    with (loopback.Place(rate=500, code=7) as one, loopback.Place(rate=500, code=9) as other):
+    with (Front(rate=500, code=7) as one, Front(rate=500, code=9) as other):
         seven, nine = Body(one, seed + 1), Body(other, seed + 2)
         seven.begin(9, 8)
         nine.begin(7)
@@ -252,10 +252,10 @@ def test_wrong_passwords_and_a_registry_that_is_down_are_told_and_nothing_is_los
     run = nine.until('no outbox of ours')
     assert run.returncode == 1 and 'no outbox of ours' in run.stdout, run
     nine.meets(seven)
-    nine.place.stop_registry()
+    nine.front.stop('registry')
     run = nine.until('our registry: no answer')
     assert run.returncode == 1 and 'our registry: no answer' in run.stdout, run
-    nine.place.start_registry()
+    nine.front.start('registry')
     run = nine.until('registry 7, notice')
     assert 'certificates' in run.stdout and nine.holder_of(number) == 2, run
 

@@ -4,9 +4,9 @@ import subprocess
 from pathlib import Path
 
 from goo_service.log import bounds
-from house import SERVICE
+from door import SERVICE
 from service_commands import command
-from loopback import HOME
+from door import TOP
 
 HEADER = 'key,device,first_day,last_day,gross_wh,aux_wh'
 
@@ -38,10 +38,10 @@ def test_rows_that_a_table_may_have(tmp_path: Path) -> None:
 
 
 def test_page_and_log_have_one_bound() -> None:
-    found = re.search(r'const MOST_ROWS = ([0-9_]+);', (HOME / 'web/reading.js').read_text())
+    found = re.search(r'const MOST_ROWS = ([0-9_]+);', (TOP / 'web/reading.js').read_text())
     assert found and int(found[1]) == bounds.ROWS == 21_000
-    assert f'{bounds.ROWS:,} rows in a table' in (HOME / 'web/words.js').read_text()
-    assert f'{bounds.ROWS:,}'.replace(',', '.') in (HOME / 'web/words-de.js').read_text()
+    assert f'{bounds.ROWS:,} rows in a table' in (TOP / 'web/words.js').read_text()
+    assert f'{bounds.ROWS:,}'.replace(',', '.') in (TOP / 'web/words-de.js').read_text()
 
 
 def test_nginx_and_log_have_one_bound() -> None:

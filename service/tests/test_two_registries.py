@@ -21,7 +21,7 @@ from bodies import assert_in_one_home
 from bodies import drain
 from bodies import make_whole
 from bodies import registries
-from loopback import Place
+from front import Front
 
 
 def some_history(seven: Body, nine: Body) -> Path:
@@ -178,10 +178,11 @@ class Slow(threading.Thread):
     It sends a byte a second, or one `100 Continue` after another.
     """
 
-    def __init__(self, place: Place, endless: bool) -> None:
+    def __init__(self, front: Front, endless: bool) -> None:
         super().__init__(daemon=True)
         self.context = ssl.SSLContext(ssl.PROTOCOL_TLS_SERVER)
-        self.context.load_cert_chain(place.dir / 'etc/tls/cert.pem', place.dir / 'etc/tls/key.pem')
+        own = front.door.etc / 'tls'
+        self.context.load_cert_chain(own / 'cert.pem', own / 'key.pem')
         self.listener = socket.create_server(('127.0.0.1', 0))
         self.port, self.endless = int(self.listener.getsockname()[1]), endless
         self.start()
@@ -205,8 +206,8 @@ def test_a_slow_peer_is_given_up_and_told_and_what_the_other_sent_is_here() -> N
     with registries(7, 9) as (seven, nine):
         seven.does('ISSUER', 'add_peer', peer=8)
         for endless in (False, True):
-            slow = Slow(nine.place, endless)
-            eight = types.SimpleNamespace(code=8, place=nine.place, public=nine.public)
+            slow = Slow(nine.front, endless)
+            eight = types.SimpleNamespace(code=8, front=nine.front, public=nine.public)
             seven.meets(eight, nine, ports={8: slow.port}, seconds={8: 4})
             first = nine.export(7, nine.some(1, 5), 5)
             nine.exchange()

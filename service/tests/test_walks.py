@@ -14,7 +14,7 @@ from disk import RECEIVES
 from disk import read_trace
 from disk import watch
 from house import PARTS
-from house import Answer
+from calls import Answer
 from house import House
 from mutations import gsrn
 from service_commands import command

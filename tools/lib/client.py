@@ -42,13 +42,18 @@ def listening(start, patience=PATIENCE):
     return port, process, line
 
 
-def connected(at, patience=PATIENCE, tls=None, name='localhost', room=None):
-    """A connection to a port of 127.0.0.1, or to the Unix socket at a path; through TLS, to this name, where a context is given. `room` bytes are received ahead at most."""
+def connected(at, patience=PATIENCE, tls=None, name='localhost', room=None, source=''):
+    """A connection to a port of 127.0.0.1, from an address where one is given, or to the Unix socket at a path; through TLS, to this name, where a context is given.
+
+    `room` bytes are received ahead at most.
+    """
     stream = socket.socket(socket.AF_INET if isinstance(at, int) else socket.AF_UNIX)
     try:
         stream.settimeout(patience)
         if room:
             stream.setsockopt(socket.SOL_SOCKET, socket.SO_RCVBUF, room)
+        if source:
+            stream.bind((source, 0))
         stream.connect(('127.0.0.1', at) if isinstance(at, int) else str(at))
         return tls.wrap_socket(stream, server_hostname=name) if tls else stream
     except BaseException:

@@ -14,7 +14,7 @@ from pathlib import Path
 sys.dont_write_bytecode = True
 import own_systemd
 import suite
-from loopback import need
+from programs import need
 from tally import COUNTS
 from tally import Tally
 

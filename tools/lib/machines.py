@@ -5,6 +5,7 @@ import fcntl
 import json
 import os
 import pathlib
+import re
 import shutil
 import signal
 import socket
@@ -14,12 +15,13 @@ import sys
 import time
 
 from own_cgroup import entering, own_cgroups, remove_cgroups
+from program import TOP
 
 DEBIAN = 'bookworm'
-INSIDE = ('systemd,systemd-sysv,udev,dbus,linux-image-cloud-amd64,initramfs-tools,qemu-guest-agent,iproute2,procps,kmod,e2fsprogs,'
-          'nginx,openssl,apache2-utils,curl,logrotate,python3,sqlite3,python3-argon2,python3-bcrypt,python3-cryptography,python3-cffi-backend,python3-fido2,python3-flask,'
-          'python3-itsdangerous,python3-pyotp,python3-segno,python3-xlsxwriter,gunicorn,python3-aiohttp,nftables,etcd-server,etcd-client')
-"""What is in the machine from the start: what makes it one, and what the package depends on. It has no way to more."""
+MACHINE = ('systemd-sysv', 'udev', 'dbus', 'linux-image-cloud-amd64', 'initramfs-tools', 'qemu-guest-agent', 'iproute2', 'procps', 'kmod', 'e2fsprogs', 'nftables', 'etcd-server',
+           'etcd-client', 'python3-cffi-backend')
+"""What makes it a machine, what its trials need beside the package, and what debootstrap does not find by a virtual package."""
+DEPENDS = re.compile(r'(?ms)^Depends:(.*?)^\S')
 PATHS = {'PATH': '/usr/local/sbin:/usr/local/bin:/usr/sbin:/usr/bin:/sbin:/bin', 'HOME': '/root', 'LANG': 'C.UTF-8', 'DEBIAN_FRONTEND': 'noninteractive'}
 NAME = 'registry.example'
 """Under which a machine reaches its own front door."""
@@ -37,17 +39,27 @@ def here(*words, **more):
     return done.stdout
 
 
+def inside():
+    """What is in the machine from the start, since it has no way to more: a machine, and what the package depends on."""
+    listed = DEPENDS.search((TOP / 'service/debian/control').read_text())[1]
+    return ','.join([*MACHINE, *(name.split()[0] for name in listed.split(',') if '$' not in name)])
+
+
 def make_base(base):
-    """A Debian in a folder. debootstrap works in mounts and processes of its own."""
-    part = base / 'root.part'
+    """A Debian in a folder, unless one is there with all that is wanted inside. debootstrap works in mounts and processes of its own."""
+    part, listed = base / 'root.part', base / 'inside'
+    if (base / 'root').exists() and listed.exists() and listed.read_text() == inside():
+        return
+    shutil.rmtree(base / 'root', ignore_errors=True)
     shutil.rmtree(part, ignore_errors=True)
     print('debootstrap ..', flush=True)
-    here('unshare', '--mount', '--pid', '--fork', '--propagation', 'private', 'debootstrap', '--variant=minbase', f'--include={INSIDE}', DEBIAN, part)
+    here('unshare', '--mount', '--pid', '--fork', '--propagation', 'private', 'debootstrap', '--variant=minbase', f'--include={inside()}', DEBIAN, part)
     (part / 'etc/hostname').write_text('registry\n')
     (part / 'etc/hosts').write_text(f'127.0.0.1 localhost registry {NAME}\n')
     (part / 'etc/fstab').write_text('')
     here('systemctl', f'--root={part}', 'disable', 'etcd', 'apt-daily.timer', 'apt-daily-upgrade.timer')         # three hosts start etcd again, as apt does
     part.rename(base / 'root')
+    listed.write_text(inside())
 
 
 class Done:

@@ -12,7 +12,7 @@ import sys
 import time
 from pathlib import Path
 
-from loopback import HOME
+from program import TOP
 from own_cgroup import entering
 from own_cgroup import own_cgroups
 from own_cgroup import remove_cgroups
@@ -101,7 +101,7 @@ def become_systemd(folder: Path, words: list[str]) -> None:
     (root / 'var/lib/man-db/auto-update').unlink(missing_ok=True)
     make_units(root, words)
     for name in ('docs', 'tools', 'service/tests'):
-        shutil.copytree(HOME / name, root / 'trial' / name)
+        shutil.copytree(TOP / name, root / 'trial' / name)
     subprocess.run(['mount', '--bind', folder / 'out', root / 'mnt'], check=True)
     (root / 'before').mkdir()
     os.chdir(root)

@@ -6,7 +6,7 @@ import subprocess
 import sys
 from pathlib import Path
 
-from loopback import HOME
+from program import TOP
 
 MARK = ('import sys; sys.path.insert(0, "tools/lib"); import program; '
         'program.keep_mark(program.PROVED, program.mark())')
@@ -24,7 +24,7 @@ def carried_out(*words: str | Path, **more: object) -> str:
 
 def has_commit(commit: str) -> bool:
     """Whether this repository has a commit; a shallow clone may not."""
-    return subprocess.run(['git', 'cat-file', '-e', f'{commit}^{{commit}}'], cwd=HOME, check=False,
+    return subprocess.run(['git', 'cat-file', '-e', f'{commit}^{{commit}}'], cwd=TOP, check=False,
                           capture_output=True).returncode == 0
 
 
@@ -33,9 +33,9 @@ class Clone:
 
     def __init__(self, folder: Path, commit: str = 'HEAD') -> None:
         self.folder, self.built = folder, folder / 'crates/goo/out/goo'
-        carried_out('git', 'clone', '--quiet', '--no-checkout', HOME, folder)
+        carried_out('git', 'clone', '--quiet', '--no-checkout', TOP, folder)
         carried_out('git', 'checkout', '--quiet',
-                    carried_out('git', 'rev-parse', commit, cwd=HOME).strip(),
+                    carried_out('git', 'rev-parse', commit, cwd=TOP).strip(),
                     cwd=folder)
         self.built.parent.mkdir(parents=True)
 

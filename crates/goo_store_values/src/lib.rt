@@ -1,8 +1,7 @@
-//! Values that rows and columns of the tables hold, read: numbers, texts, plants, devices, lots,
-//! corrections and the registry's own row; why reading one fails, and what a caller is told of it.
+//! Values that rows and columns of the tables hold, read: numbers, texts, plants, devices, lots
+//! and the registry's own row; why reading one fails, and what a caller is told of it.
 #![tactic(auto)]
 
-pub mod corrections;
 pub mod devices;
 pub mod lots;
 pub mod noting;

@@ -16,6 +16,7 @@ from goo_service.common.owner import NotDone
 from goo_service.common.owner import as_owner
 from goo_service.copies.places import Place
 from goo_service.log import bundles
+from goo_service.log import reader
 from goo_service.log import entries
 from goo_service.log import roles
 from goo_service.log.entries import Broken
@@ -171,9 +172,9 @@ def lines_of(archive: Path, after: int) -> Iterator[bytes]:
     """
     path: Path | None = None
     at = 0
-    for path, line, at in entries.whole_lines(archive, after, None, 0):
+    for path, line, at in reader.whole_lines(archive, after, None, 0):
         yield line
-    entries.verify_end(path, at)
+    reader.verify_end(path, at)
 
 
 def records_of(archive: Path, after: int, key: bytes | None,
@@ -185,11 +186,11 @@ def records_of(archive: Path, after: int, key: bytes | None,
     last: Record | None = None
     try:
         for line in as_owner(state or archive.parent, lambda: lines_of(archive, after)):
-            n = entries.number_in(line)
+            n = reader.number_in(line)
             if n < after:
                 continue
             record = entries.read_record(line, key)
-            entries.follows(last, record)
+            reader.follows(last, record)
             last = record
             if n > after:
                 yield record

@@ -7,140 +7,50 @@ two processes live and end together: each sees the other's end of the pair close
 So a crash of either is a crash of both.
 """
 import os
-import select
 import signal
 import socket
 import sys
-import time
 import traceback
-from collections import deque
-from collections.abc import Callable
 from collections.abc import Iterable
 from pathlib import Path
 from typing import Any
 from typing import NoReturn
-from typing import TypeVar
 
-from goo_service.log import bundles
 from goo_service.log import ends
 from goo_service.log import entries
-from goo_service.log import roles
-from goo_service.log import underway
+from goo_service.log import reader
 from goo_service.log.archive import Archive
+from goo_service.log.decide import Decider
 from goo_service.log.entries import Entry
 from goo_service.log.entries import Outcome
 from goo_service.log.entries import Record
 from goo_service.log.messages import Frames
-from goo_service.log.messages import Text
-from goo_service.log.messages import frame_of
 from goo_service.log.options import Options
 from goo_service.log.position import Place
 from goo_service.log.position import Position
-from goo_service.log.registry import APPLY
-from goo_service.log.registry import BROKEN
-from goo_service.log.registry import PART
-from goo_service.log.registry import SOON
 from goo_service.log.registry import Answer
-from goo_service.log.registry import EntryCalls
 
-ALIVE = 1.0
-"""Seconds after which the first process hears that a bundle goes on."""
 KEPT = 256
 """Entries at most between two syncs of the place."""
-TOGETHER = 8
-"""Outcomes at most that are sent together while the registry is at the next entry."""
-OUTCOMES = (200, 400, 403, 409)
-"""What the registry decides. Anything else is the same entry again."""
-ASIDE = Answer(entries.SET_ASIDE, 'text/plain; charset=utf-8', b'Set aside\n')
-NOT_ALLOWED = Answer(403, 'text/plain; charset=utf-8', b'Forbidden\n')
 MOVED = Answer(200, '', b'')
 """The answer to an entry that moves the version."""
-NO_BUNDLE = Answer(400, 'text/plain; charset=utf-8', b'Bad Request\n')
-REHEARSED = Answer(200, '', b'')
-"""Each line of a bundle would be accepted."""
-Written = TypeVar('Written')
 
 
 def is_plain(entry: Entry, status: int) -> bool:
     return (entry.route, status) == entries.PLAIN
 
 
-class Applier:
+class Applier(Decider):
     """Applies entries in their order, and talks with the first process meanwhile."""
 
     def __init__(self, options: Options, key: bytes, pair: socket.socket) -> None:
-        self.options, self.key, self.pair = options, key, pair
+        self.key, self.halted = key, False
         state = Path(options.state)
         # locked, before the archive is opened: another replica may be writing there
         self.place = Place(state / 'place')
         self.archive = Archive(state / 'archive', key)
         self.place.read(self.archive.last and self.archive.last.entry.n)
-        self.refusals = underway.Refusals(state / 'bundle')
-        self.registry, self.frames = EntryCalls(options.registry, self.wait_for), Frames()
-        self.poll = select.poll()
-        self.poll.register(pair, select.POLLIN)
-        self.queue: deque[Text] = deque()                   # entries that wait to be applied
-        self.outcomes: list[tuple[Any, ...]] = []           # outcomes that wait to be sent
-        self.wishes: set[str] = set()           # what else the first process wants
-        self.verdict = ''                       # what it says of an entry that failed
-        self.version, self.halted, self.why = '', False, ''
-        self.held = False                       # nothing is applied: the registry's file is copied
-        self.told = 0.0                         # when the first process heard that a bundle goes on
-
-    # -------------------------------------------------------------- the pair
-
-    def send(self, *message: Any) -> None:
-        try:
-            self.pair.sendall(frame_of(*message))
-        except OSError:
-            os._exit(1)
-
-    def listen(self, seconds: float | None = None) -> None:
-        """Waits for the first process, so long at most."""
-        if self.poll.poll(None if seconds is None else seconds * 1000):
-            self.receive()
-
-    def receive(self) -> None:
-        """Receives what the first process has sent."""
-        try:
-            part = self.pair.recv(PART)
-        except OSError:
-            part = b''
-        if not part:
-            os._exit(1)                         # it has ended: whatever is under way begins again
-        kind = ''
-        for kind, *members in self.frames.add(part):
-            if kind == 'apply':
-                self.queue.extend(members[0])
-            elif kind == 'version':
-                self.version = members[0]
-            elif kind in ('again', 'aside'):
-                self.verdict = kind
-            elif kind != 'soon':
-                self.wishes.add(kind)
-        if kind == 'soon':
-            if not self.why and not self.held:
-                self.registry.connect_ahead()
-            self.receive()          # the next message comes before it does anything else
-
-    def wait_for(self, s: socket.socket) -> None:
-        """Waits until something came from the registry, and listens to the first process too."""
-        self.poll.register(s, select.POLLIN)
-        try:
-            end = time.monotonic() + APPLY
-            while True:
-                ready = self.poll.poll(SOON) if self.outcomes else []
-                if not ready:
-                    self.send_outcomes()        # nobody waits for an outcome behind a slow entry
-                    ready = self.poll.poll(1000 * max(0, end - time.monotonic()))
-                if not ready:
-                    raise TimeoutError
-                if any(one == self.pair.fileno() for one, _ in ready):
-                    self.receive()
-                if any(one == s.fileno() for one, _ in ready):
-                    return
-        finally:
-            self.poll.unregister(s)
+        super().__init__(options, pair)
 
     # -------------------------------------------------------------- what it does
 
@@ -184,24 +94,11 @@ class Applier:
     def send_place(self) -> None:
         self.send('place', self.place.n, self.place.hash, self.place.chain)
 
-    def send_outcomes(self) -> None:
-        if self.outcomes:
-            self.send('applied', self.outcomes)
-            self.outcomes = []
-
     def halt(self, why: str) -> None:
         """For good: an operator begins this replica from a copy."""
         self.send_outcomes()
         self.halted = True
         self.send('halted', why)
-
-    def wait_because(self, why: str) -> None:
-        """Tells why nothing goes on, or with no text that it does again."""
-        if why != self.why:
-            self.send_outcomes()
-            self.registry.close()
-            self.why = why
-            self.send('waits', why)
 
     # -------------------------------------------------------------- one entry
 
@@ -245,91 +142,6 @@ class Applier:
             self.listen()
         self.wait_because('')
         return MOVED if entry.method == 'VERSION' else self.decide(entry)
-
-    def decide(self, entry: Entry) -> Answer:
-        """The registry's outcome. What the entry's role does not allow does not reach it."""
-        if not roles.allows(entry.role, entry.method, entry.route, entry.body):
-            return NOT_ALLOWED
-        if entry.route in bundles.ROUTES:
-            return self.bundle(entry)
-        return self.outcome_of(entry, lambda: self.registry.call(
-            'POST', entry.route, entry.caller, entry.body, self.meanwhile)) or ASIDE
-
-    def outcome_of(self, entry: Entry, call: Callable[[], Answer]) -> Answer | None:
-        """What a call comes to that is made until it has an outcome; None where it is set aside."""
-        while True:
-            try:
-                answer = call()
-                if answer.status in OUTCOMES:
-                    return answer
-                why = f'answered {answer.status}'
-            except BROKEN as fault:
-                why = f'{type(fault).__name__} {fault}'.strip()
-            if self.is_given_up(entry, why):
-                return None
-
-    # -------------------------------------------------------------- a bundle
-
-    def bundle(self, entry: Entry) -> Answer:
-        """The outcome of a bundle: refused whole, or of each of its lines."""
-        try:
-            bundles.read(entry.body)
-        except bundles.Unreadable:              # a door of another version has let it in
-            return NO_BUNDLE
-        if entry.route == bundles.WHOLE:
-            refused = self.outcome_of(entry, lambda: self.rehearse(entry))
-            if refused is not REHEARSED:
-                return refused or ASIDE
-        kept = self.written_at_last(lambda: self.refusals.begin(underway.mark_of(entry)))
-        return underway.apply_lines(entry, kept, self.keep_refusal,
-                                    lambda body, goes_on: self.send_line(entry, body, goes_on))
-
-    def rehearse(self, entry: Entry) -> Answer:
-        """What a bundle would come to, by the records as they are between two entries."""
-        self.registry.close()
-        self.settle()
-        address = self.options.rehearsal
-        return underway.rehearse(address, entry, self.wait_for) or REHEARSED
-
-    def send_line(self, entry: Entry, body: bytes, goes_on: bool) -> Answer | None:
-        """The outcome of one line. The first process takes requests meanwhile."""
-        if time.monotonic() - self.told > ALIVE:
-            self.told = time.monotonic()
-            self.send('alive')
-        meanwhile = self.registry.connect_ahead if goes_on else self.meanwhile
-        return self.outcome_of(entry, lambda: self.registry.call(
-            'POST', '/v1/requests', entry.caller, body, meanwhile))
-
-    def keep_refusal(self, number: int, body: bytes) -> None:
-        self.written_at_last(lambda: self.refusals.keep(number, body))
-
-    def written_at_last(self, write: Callable[[], Written]) -> Written:
-        """What is written once the disk has room."""
-        while True:
-            try:
-                made = write()
-                self.wait_because('')
-                return made
-            except OSError as fault:
-                self.wait_because(f'the state of a bundle cannot be written: {fault}')
-                self.listen(0.5)
-
-    def is_given_up(self, entry: Entry, why: str) -> bool:
-        """Whether an entry without an outcome is set aside: the first process decides it."""
-        self.send_outcomes()
-        self.registry.close()
-        self.verdict = ''
-        self.send('failed', tuple(entry), why)
-        while not self.verdict:
-            self.listen()
-        return self.verdict == 'aside'
-
-    def meanwhile(self) -> None:
-        """While the registry is at an entry: a connection for the next one, and outcomes go."""
-        if self.queue and not self.wishes:
-            self.registry.connect_ahead()
-        if len(self.outcomes) >= TOGETHER:
-            self.send_outcomes()
 
     def keep(self, line: bytes, entry: Entry, hashed: str, outcome: Outcome) -> None:
         """Into the archive. The place follows.
@@ -376,7 +188,7 @@ class Applier:
             return
         print(f'entries {self.place.n + 1} to {self.archive.last.entry.n} are applied again',
               file=sys.stderr, flush=True)
-        for record in entries.read_archive(self.archive.folder, self.place.n, self.key):
+        for record in reader.read_archive(self.archive.folder, self.place.n, self.key):
             if why := self.apply_record(record):
                 return self.halt(why)
         self.place.sync()
@@ -414,14 +226,6 @@ class Applier:
             self.listen()
         self.wishes.discard('go')
         self.held = False
-
-    def settle(self) -> None:
-        while True:
-            try:
-                self.registry.call('GET', '/', 'ISSUER')
-                return self.registry.close()
-            except BROKEN:
-                self.listen(0.5)
 
 
 def start(options: Options, key: bytes) -> socket.socket:

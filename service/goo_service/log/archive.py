@@ -6,6 +6,7 @@ from pathlib import Path
 
 from goo_service.common.files import sync_folder
 from goo_service.log import ends
+from goo_service.log import reader
 from goo_service.log import entries
 from goo_service.log.entries import Entry
 from goo_service.log.entries import Outcome
@@ -24,14 +25,14 @@ class Archive:
     def __init__(self, folder: str | Path, key: bytes | None = None) -> None:
         self.folder = Path(folder)
         self.folder.mkdir(mode=0o750, parents=True, exist_ok=True)
-        files = entries.months(self.folder)
+        files = reader.months(self.folder)
         self.file: int | None = None
         # the month before may be compressed, and gets no more
         self.month = files[-1].name[:7] if files else ''
         self.last: Record | None = None
         for path in reversed(files):
             read = functools.partial(entries.read_record, key=key)
-            self.last = ends.mend(path, read, entries.follows)
+            self.last = ends.mend(path, read, reader.follows)
             if self.last:
                 break
 
@@ -82,7 +83,7 @@ def compress(folder: Path) -> None:
 
     A month is finished once there is a later one: entries of it may come late.
     """
-    for path in entries.months(folder)[:-1]:
+    for path in reader.months(folder)[:-1]:
         if path.suffix == '.gz':
             continue
         part = path.with_name(f'.{path.name}.part')

@@ -8,6 +8,7 @@ from collections.abc import Iterator
 from pathlib import Path
 from typing import TypeVar
 
+from goo_service.log import reader
 from goo_service.log import entries
 from goo_service.log.entries import Broken
 from goo_service.log.entries import Record
@@ -50,17 +51,17 @@ def last_of(path: Path, read: Callable[[bytes], Line],
     is looked at, since such a file was whole.
     """
     if path.suffix == '.gz':
-        at_end = deque(entries.lines(path), 1)
+        at_end = deque(reader.lines(path), 1)
         return (read(at_end[0][0]), at_end[0][1]) if at_end else (None, 0)
     last: Line | None = None
     before, end = None, end_of(path, size)
-    following = entries.lines(path, end)
+    following = reader.lines(path, end)
     for line, at in following:
         try:
             now = read(line)
             follow(last, now)
         except Broken as fault:
-            raise damage_of(path, entries.entry_at(before, line, following), end, fault) from fault
+            raise damage_of(path, reader.entry_at(before, line, following), end, fault) from fault
         last, before, end = now, line, at
     return last, end
 
@@ -82,8 +83,8 @@ def mend(path: Path, read: Callable[[bytes], Line],
     with os.fdopen(os.open(path, os.O_RDWR | os.O_NOFOLLOW), 'r+b') as file:
         file.seek(end)
         rest = file.read()
-        if entries.is_more_than_a_line(rest):
-            raise damage_of(path, entries.entry_at(None, rest, iter(())), end, 'it has no line end')
+        if reader.is_more_than_a_line(rest):
+            raise damage_of(path, reader.entry_at(None, rest, iter(())), end, 'it has no line end')
         file.truncate(end)
         os.fsync(file.fileno())
     print(f'{path}: the beginning of a line, {len(rest)} bytes from byte {end} on, was cut off',
@@ -93,9 +94,9 @@ def mend(path: Path, read: Callable[[bytes], Line],
 
 def last_plain(folder: Path) -> Record | None:
     """The last record of an accepted request near the end of an archive; None where none is."""
-    for path in reversed(entries.months(folder)[-2:]):
+    for path in reversed(reader.months(folder)[-2:]):
         for begin in beginnings(path):
-            plain = (line for line, _ in entries.lines(path, begin) if IS_PLAIN.search(line))
+            plain = (line for line, _ in reader.lines(path, begin) if IS_PLAIN.search(line))
             if last := deque(plain, 1):
                 return entries.read_record(last[0])
     return None
@@ -107,6 +108,6 @@ def beginnings(path: Path) -> Iterator[int]:
     while True:
         begin = 0 if path.suffix == '.gz' else end_of(path, size)
         yield begin
-        if begin == 0 or size >= entries.NEAR:
+        if begin == 0 or size >= reader.NEAR:
             return
         size *= 2

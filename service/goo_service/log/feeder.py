@@ -5,6 +5,7 @@ import contextlib
 import time
 from typing import TYPE_CHECKING
 
+from goo_service.log import reader
 from goo_service.log import entries
 from goo_service.log.messages import Text
 from goo_service.log.store import NoAnswer
@@ -73,7 +74,7 @@ class Feeder:
             except entries.Broken as fault:
                 replica.warn(f'what holders sent today is not counted whole: {fault}')
                 break
-            if not lines or entries.number_in(lines[0]) != sent.entry + 1:
+            if not lines or reader.number_in(lines[0]) != sent.entry + 1:
                 break                           # they are no longer in the log
             for line in lines:
                 sent.count(sent.entry + 1, line)
@@ -127,7 +128,7 @@ class Feeder:
         except entries.Broken as fault:
             replica.halt(f'entry {n} cannot be read in the log: {fault}')
             return []
-        if lines and entries.number_in(lines[0]) == n:
+        if lines and reader.number_in(lines[0]) == n:
             return [(line,) for line in lines]
         if lines or replica.store.lacks(n):
             replica.halt(f'entry {n} is no longer in the log: begin this replica from a copy')

@@ -14,6 +14,7 @@ from typing import NamedTuple
 
 from goo_service.common.files import sync_folder
 from goo_service.log import ends
+from goo_service.log import reader
 from goo_service.log import entries
 from goo_service.log.archive import CREATED
 from goo_service.log.archive import write_all
@@ -237,8 +238,8 @@ def read_lines(folder: Path, n: int) -> list[bytes]:
     room = BYTES
     for path in [*[file for file in files if int(file.stem) <= n][-1:],
                  *[file for file in files if int(file.stem) > n]]:
-        for line, _ in entries.lines(path):
-            if entries.number_in(line) == n + len(found):
+        for line, _ in reader.lines(path):
+            if reader.number_in(line) == n + len(found):
                 found.append(line)
                 room -= len(line)
             if len(found) == LINES or room <= 0:
@@ -249,7 +250,7 @@ def read_lines(folder: Path, n: int) -> list[bytes]:
 def last_number(folder: Path) -> int:
     """The number of the last whole entry of a log that another program may be writing."""
     for path in sorted(folder.glob('*.jsonl'), reverse=True):
-        if (n := ends.last_of(path, entries.number_in, size=SHORT)[0]) is not None:
+        if (n := ends.last_of(path, reader.number_in, size=SHORT)[0]) is not None:
             return n
     return 0
 

@@ -27,6 +27,7 @@ from goo_service.common.files import sync_folder
 from goo_service.common.files import write_whole
 from goo_service.common.owner import remove
 from goo_service.log import bundles
+from goo_service.log import reader
 from goo_service.log import entries
 from goo_service.log import file_store
 from goo_service.log import position
@@ -95,7 +96,7 @@ def number_of(folder: Path) -> int:
 def point_before(archive: Path, n: int) -> Position:
     """The entry before n, which has to be in the archive, as n has to be."""
     before = None
-    for record in entries.read_archive(archive, n - 2):
+    for record in reader.read_archive(archive, n - 2):
         if record.entry.n == n - 1:
             before = Position(n - 1, record.hash, record.outcome.chain)
         if record.entry.n == n and (before or n == 1):
@@ -147,11 +148,11 @@ def cut(archive: Path, n: int) -> None:
 
     The file that is the last one then is written anew: the other folder keeps what it was.
     """
-    for path in reversed(entries.months(archive)):
+    for path in reversed(reader.months(archive)):
         part = archive / f'.{path.name[:7]}.part'
         with open(part, 'wb') as file:
-            for line, _ in entries.lines(path):
-                if entries.number_in(line) >= n:
+            for line, _ in reader.lines(path):
+                if reader.number_in(line) >= n:
                     break
                 file.write(line + b'\n')
             is_empty = not file.tell()
@@ -181,7 +182,7 @@ def set_log_aside(state: Path, folder: Path) -> None:
 
 def set_request_aside(state: Path, folder: Path, n: int) -> None:
     """The very request of entry n is answered 500 from here on, and is no entry again."""
-    record = next(entries.read_archive(folder / 'archive', n - 1))
+    record = next(reader.read_archive(folder / 'archive', n - 1))
     entry = record.entry
     line = f'{entries.fingerprint(entry.caller, entry.route, entry.body)} {n}\n'
     path = state / 'aside'

@@ -1,8 +1,9 @@
 """Brings an old registry over: checks its tables, plans, rehearses, sends, and compares.
 
-usage: goo-migrate check FOLDER
+usage: goo-migrate settings
+       goo-migrate check FOLDER
        goo-migrate plan FOLDER
-       goo-migrate rehearse FOLDER [--program PATH]
+       goo-migrate rehearse FOLDER [--program PATH] [--copy COPY]
        goo-migrate run FOLDER [--log SOCKET]
        goo-migrate compare FOLDER COPY
        goo-migrate protocol FOLDER COPY --key FILE
@@ -11,16 +12,9 @@ usage: goo-migrate check FOLDER
        goo-migrate close FOLDER [--open]
        goo-migrate find FOLDER NUMBER [--new]
 
-FOLDER has the settings, migration.toml, and the old registry's tables in tables/ (MIGRATING.md).
-`check` reads and judges everything, and writes report.txt: nothing is planned while a fault stands
-that nobody waived by its name. `plan` writes the requests. `rehearse` carries them out in a
-registry of its own, in the folder `rehearsal`, and compares. `run` sends them to the log of this
-host; it may be stopped, and goes on when it is called again. `compare` and `protocol` hold a copy
-of the registry against the tables; `protocol` signs what was found. COPY is a folder of
-/var/backups/goo, by its name or by its path, `last` for the newest one, or a database. `verify`
-checks a protocol and the files beside it. `attach` has the records of this host show the documents
-of the old registry to their holders. `close` has the log of this host take no notice of the old
-registry any more; with --open it takes them again. `find` tells what became of a number.
+FOLDER has the settings, migration.toml, and the old registry's tables in tables/; all that is
+written comes there too. COPY is a folder of /var/backups/goo, by its name or by its path, `last`
+for the newest one, or a database. /usr/share/doc/goo/MIGRATING.md has the weekend hour by hour.
 
 Exit status 0 where all is well, 1 where a fault or a difference was found, 2 for a usage error, 3
 where something can't be read or was not answered.
@@ -29,6 +23,8 @@ import argparse
 import signal
 import sqlite3
 import sys
+import textwrap
+from collections.abc import Callable
 from pathlib import Path
 
 from goo_service.common.client import FULL
@@ -44,6 +40,7 @@ from goo_service.migrate import plan
 from goo_service.migrate import protocol
 from goo_service.migrate import rehearsal
 from goo_service.migrate import sending
+from goo_service.migrate import settings as settings_of
 from goo_service.migrate.numbers import NoRange
 from goo_service.migrate.settings import Settings
 from goo_service.migrate.settings import WrongSettings
@@ -51,6 +48,7 @@ from goo_service.migrate.settings import read as settings_in
 from goo_service.migrate.sums import DIFFERENCES
 from goo_service.migrate.sums import Comparison
 from goo_service.migrate.sums import compare
+from goo_service.migrate.tables import FOLDER
 
 LOG, PROGRAM, DATABASE = '/run/goo/door.sock', '/usr/bin/goo', 'registry.db'
 GOOD, FOUND, USAGE, FAILED = range(4)
@@ -60,16 +58,24 @@ TOLD = 20
 
 def words() -> argparse.Namespace:
     parser = argparse.ArgumentParser(prog='goo-migrate', description=__doc__,
+                                     usage=argparse.SUPPRESS,
                                      formatter_class=argparse.RawDescriptionHelpFormatter)
-    verbs = parser.add_subparsers(dest='verb', required=True)
-    for name in VERBS:
-        verb = verbs.add_parser(name)
-        verb.add_argument('folder', type=Path, metavar='FOLDER')
+    verbs = parser.add_subparsers(dest='verb', required=True, metavar='COMMAND',
+                                  prog='goo-migrate')
+    for name, (told, _) in VERBS.items():
+        verb = verbs.add_parser(name, help=told, description=f'{told[0].upper()}{told[1:]}.')
+        if name == 'settings':
+            continue
+        verb.add_argument('folder', type=Path, metavar='FOLDER',
+                          help=f'with {settings_of.NAME} and {FOLDER}/')
         if name in ('compare', 'protocol'):
-            verb.add_argument('copy', metavar='COPY')
+            verb.add_argument('copy', metavar='COPY',
+                              help='a folder of /var/backups/goo, `last`, or a database')
         if name == 'rehearse':
             verb.add_argument('--program', default=PROGRAM, metavar='PATH',
                               help=f'the registry\'s program ({PROGRAM})')
+            verb.add_argument('--copy', metavar='COPY', help='of a registry that has accounts '
+                              'already, in place of a new one')
         if name == 'run':
             verb.add_argument('--log', default=LOG, metavar='SOCKET',
                               help=f'where the log of requests listens ({LOG})')
@@ -87,7 +93,7 @@ def words() -> argparse.Namespace:
             verb.add_argument('--closed', type=Path, default=Path(closed.PATH), metavar='FILE',
                               help=f'the list of closed registries ({closed.PATH})')
         if name == 'find':
-            verb.add_argument('number', metavar='NUMBER')
+            verb.add_argument('number', metavar='NUMBER', help='of one certificate')
             verb.add_argument('--new', action='store_true', help='it is a new number')
     return parser.parse_args()
 
@@ -109,7 +115,8 @@ def do_plan(given: argparse.Namespace, settings: Settings) -> int:
 
 
 def do_rehearse(given: argparse.Namespace, settings: Settings) -> int:
-    done = rehearsal.rehearse(given.folder, settings, given.program, show)
+    copy = database_of(given.copy) if given.copy else None
+    done = rehearsal.rehearse(given.folder, settings, given.program, show, copy)
     print(done.text)
     return tell_comparison(given.folder, done.comparison)
 
@@ -129,8 +136,9 @@ def do_compare(given: argparse.Namespace, settings: Settings) -> int:
 
 def do_protocol(given: argparse.Namespace, settings: Settings) -> int:
     key = Key(given.key)
-    found = compare(given.folder, settings, database_of(given.copy))
-    protocol.write(given.folder, settings, found, key)
+    copy = database_of(given.copy)
+    found = compare(given.folder, settings, copy)
+    protocol.write(given.folder, settings, found, copy, key)
     print(f'{given.folder / protocol.NAME}, signed in {given.folder / protocol.SIGNATURE}')
     return tell_comparison(given.folder, found)
 
@@ -163,7 +171,10 @@ def do_close(given: argparse.Namespace, settings: Settings) -> int:
 def do_find(given: argparse.Namespace, settings: Settings) -> int:
     found = (enquiry.by_new_number(given.folder, given.number) if given.new
              else enquiry.by_old_number(given.folder, settings, given.number))
-    print(found.text if found else f'no certificate with the number {given.number} came over')
+    told = [of.text for of in found]
+    if not given.new:
+        told += (of.text for of in enquiry.left_out(given.folder, settings, given.number))
+    print('\n'.join(told) or f'no certificate with the number {given.number} came over')
     return GOOD if found else FOUND
 
 
@@ -180,15 +191,38 @@ def tell_comparison(folder: Path, found: Comparison) -> int:
     """Shows both sides, and the differences."""
     for name, side in (('tables', found.stated), ('registry', found.held)):
         print(f'{name}: {side.total:,} certificates in {side.ranges:,} ranges')
+        print('\n'.join(f'  of registry {code:02}: {count:,}' for (code,), count
+                        in sorted(side.by_registry.items())))
+    print('\n'.join(found.left_out) or 'nothing of the stock is left out')
     print('\n'.join(found.differences[:TOLD]) or 'no difference')
     if found.count > TOLD:
         print(f'.. {found.count:,} differences: see {folder / DIFFERENCES}')
     return FOUND if found.count else GOOD
 
 
-VERBS = {'check': do_check, 'plan': do_plan, 'rehearse': do_rehearse, 'run': do_run,
-         'compare': do_compare, 'protocol': do_protocol, 'verify': do_verify,
-         'attach': do_attach, 'close': do_close, 'find': do_find}
+def do_settings() -> int:
+    print(textwrap.dedent((settings_of.__doc__ or '').partition('\n\n')[2]).strip())
+    return GOOD
+
+
+Verb = Callable[[argparse.Namespace, Settings], int]
+VERBS: dict[str, tuple[str, Verb | None]] = {
+    'settings': ('prints what migration.toml may say, with an example of each', None),
+    'check': ('reads and judges all tables: report.txt, left-out.csv', do_check),
+    'plan': ('writes the requests, once no fault stands: plan.jsonl, numbers.csv, carried.csv',
+             do_plan),
+    'rehearse': ('carries the plan out in a registry of its own, in FOLDER/rehearsal, and compares',
+                 do_rehearse),
+    'run': ('sends the plan to the log of this host; goes on where it was stopped', do_run),
+    'compare': ('holds a copy of the registry against the tables: sums-tables, sums-registry, '
+                'differences', do_compare),
+    'protocol': ('compares, and signs what was found: protocol.json, protocol.sig', do_protocol),
+    'verify': ('checks the signature of a protocol, and the files of which it tells', do_verify),
+    'attach': ('has the records show the documents of the old registry to their holders',
+               do_attach),
+    'close': ('has the log of this host take no notice of the old registry any more', do_close),
+    'find': ('tells what became of a certificate, by its old number or by its new one', do_find)}
+"""What each command does, and the function that does it with the settings of a folder."""
 FAULTS = (OSError, LookupError, sqlite3.Error, WrongSettings, plan.NotPlanned, sending.Stopped,
           NoRange, ValueError, Unfit)
 
@@ -196,8 +230,9 @@ FAULTS = (OSError, LookupError, sqlite3.Error, WrongSettings, plan.NotPlanned, s
 def main() -> int:
     given = words()
     signal.signal(signal.SIGTERM, lambda *_: sys.exit(FAILED))
+    _, verb = VERBS[given.verb]
     try:
-        return VERBS[given.verb](given, settings_in(given.folder))
+        return verb(given, settings_in(given.folder)) if verb else do_settings()
     except KeyboardInterrupt:
         print('\nstopped', file=sys.stderr)
     except FAULTS as fault:

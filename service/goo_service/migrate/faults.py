@@ -35,6 +35,13 @@ KINDS = {
     'number': ('the number of a certificate has another form', LEFT_OUT),
     'range': ('the last number is below the first one, or of another series', LEFT_OUT),
     'overlap': ('a certificate stands in two rows', LEFT_OUT),
+    'registry': ('a registry has no such code, or the number of a certificate has another one',
+                 LEFT_OUT),
+    'other-registry': ('certificates of another registry, whose lot no row of lots.csv states',
+                       LEFT_OUT),
+    'own-registry': ('certificates of the new registry itself, which come back by no notice of '
+                     'this plan', LEFT_OUT),
+    'lot-twice': ('two rows of lots.csv are one lot', LEFT_OUT),
     'stock-without-device': ('the device of certificates is in no table', LEFT_OUT),
     'stock-without-account': ('the account of certificates is in no table', LEFT_OUT),
     'period': ('a period ends before it begins, or in another month', LEFT_OUT),
@@ -86,7 +93,7 @@ class Fault:
 
     def leaves_out(self) -> bool:
         """Whether the row stays behind where the fault is waived."""
-        return KINDS[self.kind][1] != AS_IT_IS
+        return KINDS[self.kind][1] == LEFT_OUT
 
 
 def waiver_fault(waiver: str) -> str:

@@ -52,6 +52,7 @@ technology = of_pattern('T[0-9]{6}', 'a technology: T and 6 digits')
 source = of_pattern('F[0-9]{8}', 'an energy source: F and 8 digits')
 support = one_of(SUPPORT, 'a kind of support')
 carrier = one_of(CARRIERS, 'an energy carrier')
+registry = of_pattern('0?[1-9]|[1-9][0-9]', 'a code of a registry: 1 to 99')
 
 
 def device(text: str) -> str:

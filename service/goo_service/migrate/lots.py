@@ -11,29 +11,28 @@ from goo_service.rules.lots import MWH
 
 STOCK = 'stock'
 ROWS_BY_LOT = '''
-SELECT row, device, first_day, last_day, issued_on FROM stock WHERE first_day != ''
-ORDER BY device, first_day, row
+SELECT row, other, device, first_day, last_day, issued_on FROM stock WHERE first_day != ''
+ORDER BY other, device, first_day, row
 '''
 PERIODS = '''
-SELECT min(row), device, first_day, max(last_day) FROM stock
-WHERE first_day != '' AND last_day != '' GROUP BY device, first_day ORDER BY device, first_day
+SELECT min(row), other, device, first_day, max(last_day) FROM stock
+WHERE first_day != '' AND last_day != '' GROUP BY other, device, first_day
+ORDER BY other, device, first_day
 '''
 LOT_SUMS = '''
-SELECT min(s.row), s.first_day, max(s.last_day), sum(s.count), d.capacity_w
-FROM stock AS s JOIN device AS d ON d.gsrn = s.device
-WHERE s.first_day != '' AND d.capacity_w > 0 GROUP BY s.device, s.first_day
+SELECT min(s.row), s.first_day, max(s.last_day), sum(s.count),
+       coalesce(l.capacity_w, d.capacity_w) AS most
+FROM stock AS s LEFT JOIN device AS d ON d.gsrn = s.device AND s.other IS NULL
+LEFT JOIN lot AS l ON l.registry = s.other AND l.device = s.device AND l.first_day = s.first_day
+WHERE s.first_day != '' AND most > 0 GROUP BY s.other, s.device, s.first_day
 '''
 
 
-def row_faults(row: Row, days: dict[str, str], commissioned: str,
-               settings: Settings) -> Iterator[Fault]:
+def row_faults(row: Row, days: dict[str, str], settings: Settings) -> Iterator[Fault]:
     """What is wrong between the days of one row. Days that can't be read are empty."""
     first, last, issued = days['first_day'], days['last_day'], days['issued_on']
     if first and last and (last < first or first[:7] != last[:7]):
         yield row.fault('period', 'last_day', f'{first} to {last} is not within one month')
-    if first and commissioned and first < commissioned:
-        yield row.fault('before-commissioning', 'first_day',
-                        f'the device was commissioned on {commissioned}')
     if last and issued and not last < issued <= settings.closed_on:
         yield row.fault('issued', 'issued_on', f'{issued} is not after {last}, or is after '
                         f'{settings.closed_on}, the last day of the tables')
@@ -66,10 +65,10 @@ def overlaps(database: sqlite3.Connection) -> Iterator[Fault]:
 
 def differing(database: sqlite3.Connection) -> Iterator[Fault]:
     """Rows that state another last day, or day of issue, than the first row of their lot."""
-    lot, stated, at = ('', ''), ('', ''), 0
-    for row, device, first_day, last_day, issued_on in database.execute(ROWS_BY_LOT):
-        if (device, first_day) != lot:
-            lot, stated, at = (device, first_day), (last_day, issued_on), row
+    lot, stated, at = (None, '', ''), ('', ''), 0
+    for row, other, device, first_day, last_day, issued_on in database.execute(ROWS_BY_LOT):
+        if (other, device, first_day) != lot:
+            lot, stated, at = (other, device, first_day), (last_day, issued_on), row
         elif (last_day, issued_on) != stated:
             yield Fault('lot-differs', STOCK, row, 'last_day',
                         f'{last_day}, issued on {issued_on}, and row {at} of device {device} has '
@@ -78,10 +77,10 @@ def differing(database: sqlite3.Connection) -> Iterator[Fault]:
 
 def shared_days(database: sqlite3.Connection) -> Iterator[Fault]:
     """Lots that begin before an earlier lot of their device has ended; the first row of each."""
-    device, end, at = '', '', 0
-    for row, its, first_day, last_day in database.execute(PERIODS):
-        if its != device:
-            device, end = its, ''
+    device, end, at = (None, ''), '', 0
+    for row, other, its, first_day, last_day in database.execute(PERIODS):
+        if (other, its) != device:
+            device, end = (other, its), ''
         if first_day <= end:
             yield Fault('periods-overlap', STOCK, row, 'first_day',
                         f'the period of row {at} ends on {end}')
@@ -97,4 +96,5 @@ def too_many(database: sqlite3.Connection) -> Iterator[Fault]:
         most = watts * hours(first_day, last_day)
         if count * MWH > most:
             yield Fault('more-than-made', STOCK, row, 'first', f'{count:,} certificates, and '
-                        f'{watts:,} W make {most // MWH:,} from {first_day} to {last_day}')
+                        f'{watts:,} W make {most // MWH:,} from {first_day} to {last_day}; is '
+                        'capacity under [tables] right?')

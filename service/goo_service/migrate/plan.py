@@ -3,9 +3,9 @@
 The file plan.jsonl has a line for each request: the holder to which it belongs, the body that is
 sent, and the reply that has to come. A key is made of what its row is about, so a request that is
 sent again is answered `repeated`. The old registry is a peer, and its certificates come in by
-notices of it, of one account and 100 parts at most. All of a holder stands together.
+notices of it, of one account and 100 parts at most. Certificates of a third registry keep its lots
+and numbers. All of a holder stands together.
 """
-import csv
 import hashlib
 import json
 import sqlite3
@@ -21,12 +21,16 @@ from goo_service.migrate.numbers import text_of
 from goo_service.migrate.settings import Settings
 from goo_service.migrate.tables import hash_of
 from goo_service.migrate.tables import hashes
+from goo_service.migrate.tables import write_table
+from goo_service.rules.lots import LOT
 from goo_service.rules.lots import Lot
 from goo_service.rules.notices import MOST_PARTS
 from goo_service.rules.notices import notice_text
 
 NAME, NUMBERS, CARRIED = 'plan.jsonl', 'numbers.csv', 'carried.csv'
+ACCOUNTS = 'new-accounts.csv'
 NUMBER_COLUMNS = ('old_first', 'old_last', 'first', 'last', 'device', 'first_day', 'account')
+ACCOUNT_COLUMNS = ('holder', 'name', 'account', 'old_holder', 'old_account')
 CARRIED_COLUMNS = ('device', 'old_carry_wh', 'choice', 'added_to_first_declaration_wh')
 DEVICE = ('site', 'country', 'tech', 'source', 'carrier', 'capacity_w', 'commissioned', 'support')
 ACCOUNT_NUMBERS = '''
@@ -38,15 +42,11 @@ WHERE its = account.row
 SERIAL_NUMBERS = '''
 UPDATE stock SET first = ? + n FROM (
     SELECT row AS its, coalesce(sum(count) OVER (ORDER BY series, counted, row
-           ROWS BETWEEN UNBOUNDED PRECEDING AND 1 PRECEDING), 0) AS n FROM kept_stock)
+           ROWS BETWEEN UNBOUNDED PRECEDING AND 1 PRECEDING), 0) AS n FROM kept_stock
+    WHERE other IS NULL)
 WHERE its = stock.row
 '''
-PARTS = '''
-SELECT s.first, s.first + s.count - 1, s.device, d.country, d.site, d.tech, d.source, d.capacity_w,
-       d.commissioned, d.support, s.first_day, s.last_day, s.issued_on, d.carrier
-FROM kept_stock AS s JOIN kept_device AS d ON d.gsrn = s.device
-WHERE s.account = ? ORDER BY s.first
-'''
+PARTS = f'SELECT first, last, {", ".join(LOT)} FROM stated WHERE account = ? ORDER BY first'
 Body = dict[str, Any]
 Part = tuple[int, int, Lot]
 
@@ -98,6 +98,9 @@ def write(folder: Path, settings: Settings) -> int:
         count = write_lines(folder / NAME, (step.line for step in steps(database, settings)))
         write_table(folder / NUMBERS, NUMBER_COLUMNS, number_rows(database))
         write_table(folder / CARRIED, CARRIED_COLUMNS, carried_rows(database, settings))
+        write_table(folder / ACCOUNTS, ACCOUNT_COLUMNS, database.execute(
+            'SELECT h.code, h.name, a.number, h.old, a.old FROM kept_account AS a '
+            'JOIN kept_holder AS h ON h.old = a.holder ORDER BY a.number'))
         work.note(database, 'plan', hash_of(folder / NAME))
         work.note(database, 'requests', str(count))
         database.execute('COMMIT')
@@ -115,23 +118,14 @@ def write_lines(path: Path, lines: Iterator[str]) -> int:
     return count
 
 
-def write_table(path: Path, columns: tuple[str, ...], rows: Iterator[tuple[object, ...]]) -> None:
-    """Writes a CSV in place of the one of before."""
-    part = path.with_suffix('.part')
-    with part.open('w', encoding='utf-8', newline='') as file:
-        writer = csv.writer(file)
-        writer.writerow(columns)
-        writer.writerows(rows)
-    part.replace(path)
-
-
 def assign_serials(database: sqlite3.Connection, settings: Settings) -> None:
     """New serials in the order of the old numbers, where those have another form."""
     if settings.numbers != 'assigned':
         return
-    database.execute('UPDATE stock SET first = NULL')
+    database.execute('UPDATE stock SET first = NULL WHERE other IS NULL')
     database.execute(SERIAL_NUMBERS, (settings.old_code * SERIALS + 1,))
-    total, = database.execute('SELECT coalesce(sum(count), 0) FROM kept_stock').fetchone()
+    total, = database.execute('SELECT coalesce(sum(count), 0) FROM kept_stock '
+                              'WHERE other IS NULL').fetchone()
     if total > MOST_COUNT:
         raise NotPlanned(f'{total:,} certificates are more than there are serials')
 
@@ -149,7 +143,7 @@ def steps(database: sqlite3.Connection, settings: Settings) -> Iterator[Step]:
                           'name': name}, {})
         accounts = accounts_of(database, old)
         yield from members(database, code, accounts)
-        for account, parts in notices_of(database, accounts, settings):
+        for account, parts in notices_of(database, accounts):
             notice += 1
             yield import_step(settings, code, notice, account, parts)
 
@@ -174,12 +168,12 @@ def members(database: sqlite3.Connection, code: str,
                           'device': gsrn, 'account': number, **dict(zip(DEVICE, values))}, {})
 
 
-def notices_of(database: sqlite3.Connection, accounts: list[tuple[int, str]],
-               settings: Settings) -> Iterator[tuple[int, list[Part]]]:
+def notices_of(database: sqlite3.Connection,
+               accounts: list[tuple[int, str]]) -> Iterator[tuple[int, list[Part]]]:
     """The certificates of accounts, so many parts at a time."""
     for number, old in accounts:
         parts: list[Part] = []
-        for part in joined_parts(database, old, settings):
+        for part in joined_parts(database, old):
             if len(parts) == MOST_PARTS:
                 yield number, parts
                 parts = []
@@ -188,11 +182,11 @@ def notices_of(database: sqlite3.Connection, accounts: list[tuple[int, str]],
             yield number, parts
 
 
-def joined_parts(database: sqlite3.Connection, account: str, settings: Settings) -> Iterator[Part]:
+def joined_parts(database: sqlite3.Connection, account: str) -> Iterator[Part]:
     """The ranges of an account. Those of one lot that follow each other are one."""
     before: Part | None = None
     for first, last, *stated in database.execute(PARTS, (account,)):
-        lot = Lot(settings.old_code, *stated)
+        lot = Lot(*stated)
         if before and before[1] == first - 1 and before[2] == lot:
             before = (before[0], last, lot)
             continue

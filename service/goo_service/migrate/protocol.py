@@ -1,8 +1,9 @@
 """The protocol of a migration for the auditor: what went in, what was sent, what came out; signed.
 
 protocol.json states hashes of the tables, the settings and the plan, the faults that were waived,
-the sums on both sides, and when it was written. protocol.sig is its Ed25519 signature by the key of
-the issuing body, in base64. Sums and protocol can be made again from the same files.
+what was left out, the copy of the registry, the sums on both sides, and when it was written.
+protocol.sig is its Ed25519 signature by the key of the issuing body, in base64. Sums and protocol
+can be made again from the same files.
 """
 import json
 import time
@@ -12,6 +13,7 @@ from typing import Any
 from goo_service.common.files import write_whole
 from goo_service.exchange.signature import Key
 from goo_service.exchange.signature import is_signed
+from goo_service.migrate import left_out
 from goo_service.migrate import plan
 from goo_service.migrate import sending
 from goo_service.migrate import settings as settings_of
@@ -24,10 +26,11 @@ from goo_service.migrate.sums import Comparison
 from goo_service.migrate.sums import Sums
 
 NAME, SIGNATURE = 'protocol.json', 'protocol.sig'
-LISTS = (plan.NUMBERS, plan.CARRIED)
+LISTS = (plan.NUMBERS, plan.CARRIED, plan.ACCOUNTS, left_out.NAME)
 
 
-def stated(folder: Path, settings: Settings, comparison: Comparison) -> dict[str, Any]:
+def stated(folder: Path, settings: Settings, comparison: Comparison,
+           copy: Path) -> dict[str, Any]:
     """What the protocol states."""
     current, count = sending.planned(folder)
     with work.opened(folder) as database:
@@ -36,6 +39,7 @@ def stated(folder: Path, settings: Settings, comparison: Comparison) -> dict[str
                                   'ORDER BY kind').fetchall()
         left = database.execute('SELECT source, count(*) FROM left_out GROUP BY source '
                                 'ORDER BY source').fetchall()
+        stock = left_out.counts(database)
         papers = database.execute('SELECT file, bytes, hash, holder, about FROM kept_document '
                                   'ORDER BY file').fetchall()
     return {
@@ -47,7 +51,11 @@ def stated(folder: Path, settings: Settings, comparison: Comparison) -> dict[str
         'lists (SHA-256)': {name: tables.hash_of(folder / name) for name in LISTS},
         'plan': {'SHA-256': current, 'requests': count, 'answered': sending.place(folder, current)},
         'faults waived': dict(waived), 'rows left out': dict(left),
+        'certificates left out': {of.why: {'certificates': of.certificates, 'rows': of.rows,
+                                           'rows that can not be read': of.rows - of.read}
+                                  for of in stock},
         'carried energy': settings.choice,
+        'copy of the registry': {'path': str(copy.resolve()), 'SHA-256': tables.hash_of(copy)},
         'sums of the tables': sums(folder / STATED, comparison.stated),
         'sums of the registry': sums(folder / HELD, comparison.held),
         'differences': comparison.count,
@@ -58,18 +66,23 @@ def stated(folder: Path, settings: Settings, comparison: Comparison) -> dict[str
 
 
 def sums(path: Path, of: Sums) -> dict[str, Any]:
-    return {'certificates': of.total, 'ranges': of.ranges, 'SHA-256': tables.hash_of(path)}
+    return {'certificates': of.total, 'ranges': of.ranges,
+            'by registry': {f'{code:02}': count for (code,), count
+                            in sorted(of.by_registry.items())},
+            'SHA-256': tables.hash_of(path)}
 
 
-def write(folder: Path, settings: Settings, comparison: Comparison, key: Key) -> None:
-    """Writes the protocol of a comparison, and its signature."""
-    text = json.dumps(stated(folder, settings, comparison), indent=2, ensure_ascii=False) + '\n'
+def write(folder: Path, settings: Settings, comparison: Comparison, copy: Path,
+          key: Key) -> None:
+    """Writes the protocol of a comparison with a copy of the registry, and its signature."""
+    text = json.dumps(stated(folder, settings, comparison, copy), indent=2,
+                      ensure_ascii=False) + '\n'
     write_whole(folder / NAME, text)
     write_whole(folder / SIGNATURE, f'{key.signature(text).strip()} {key.public}\n')
 
 
 def faults(folder: Path, public: str | None) -> list[str]:
-    """What of a protocol does not hold: the signature, or a file that is another one now.
+    """What of a protocol does not hold: the signature, the comparison, or a file of it.
 
     With `public` the key has to be that one, and not only the one that the signature names.
     """
@@ -77,7 +90,10 @@ def faults(folder: Path, public: str | None) -> list[str]:
     signature, _, signer = (folder / SIGNATURE).read_text(encoding='utf-8').strip().partition(' ')
     if not is_signed(text, signature, public or signer):
         return [f'{NAME} is not signed by {public or "the key that stands beside its signature"}']
-    return list(changed(folder, json.loads(text)))
+    said = json.loads(text)
+    differences = said['differences']
+    told = [f'{differences:,} differences between the tables and the registry'] * bool(differences)
+    return told + changed(folder, said)
 
 
 def changed(folder: Path, said: dict[str, Any]) -> list[str]:

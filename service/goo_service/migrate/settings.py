@@ -1,5 +1,8 @@
 """What the issuing body decides for a migration: the file migration.toml.
 
+    # faults of the check that are waived, in front of all sections
+    waive = ["deadline stock", "name holders 12"]
+
     [old]
     code = 8                        # of the old registry, as a peer of the new one
     name = "Registry of before"
@@ -19,11 +22,9 @@
     [columns.stock]                 # where a column has another name in the old table
     first = "GO_FROM"
 
-    [numbers]
-    form = "own"                    # "own": 14 digits, the old registry's code in front
-                                    # "serial": `pattern` finds the serial in an old number
-                                    # "assigned": serials are given anew, in the order of the old
-                                    # numbers
+    [numbers]                       # not there: 14 digits, the old registry's code in front
+    form = "serial"                 # `pattern` finds the serial in an old number; or "assigned":
+                                    # serials are given anew, in the order of the old numbers
     pattern = "AT-([0-9]+)"         # the one group is what is counted
 
     [holders]                       # the new code of a holder; without a line the old one is kept
@@ -32,11 +33,11 @@
     "A very long name .." = "A shorter one"
     [countries]                     # likewise [technologies], [sources], [carriers], [supports]
     "Germany" = "DE"
+    [registries]                    # the code of a third registry, in the column `registry`
+    "ES" = "34"
 
     [carry]                         # where carried.csv is there
     choice = "added"                # or "left out": what is told to the auditor for each device
-
-    waive = ["deadline stock", "name holders 12"]     # in front of all sections
 """
 import json
 import re
@@ -58,18 +59,24 @@ CHOICES = ('added', 'left out')
 WORDS: dict[str, forms.Reader] = {
     'holders': forms.holder_code, 'names': forms.name, 'countries': forms.country,
     'technologies': forms.technology, 'sources': forms.source, 'carriers': forms.carrier,
-    'supports': forms.support}
+    'supports': forms.support, 'registries': forms.registry}
 """The sections that say what a word of the old tables becomes, and the form that it has to have."""
 COLUMNS: dict[str, tuple[str, ...]] = {
     'holders': ('holder', 'name'),
     'accounts': ('account', 'holder'),
     'devices': ('device', 'account', 'site', 'country', 'technology', 'source', 'carrier',
                 'capacity', 'commissioned', 'support'),
-    'stock': ('first', 'last', 'device', 'first_day', 'last_day', 'issued_on', 'account'),
+    'lots': ('registry', 'device', 'first_day', 'site', 'country', 'technology', 'source',
+             'carrier', 'capacity', 'commissioned', 'support'),
+    'stock': ('first', 'last', 'registry', 'device', 'first_day', 'last_day', 'issued_on',
+              'account'),
     'carried': ('device', 'energy_wh'),
     'documents': ('file', 'holder', 'about'),
 }
-"""The tables with their columns. The last two tables need not be there."""
+"""The tables with their columns."""
+OPTIONAL_TABLES = ('lots', 'carried', 'documents')
+OPTIONAL_COLUMNS = {'stock': ('registry',)}
+"""The columns that a table may lack: the field is empty then."""
 
 
 class WrongSettings(ValueError):
@@ -152,7 +159,10 @@ def read(folder: Path) -> Settings:
     try:
         must(path.stat().st_size <= MOST_BYTES, f'it has more than {MOST_BYTES} bytes')
         whole = tomllib.loads(path.read_text(encoding='utf-8'))
-    except (OSError, UnicodeDecodeError, tomllib.TOMLDecodeError) as fault:
+    except OSError as fault:
+        raise WrongSettings(f'{path}: {fault.strerror}; goo-migrate settings prints one to begin '
+                            'with') from fault
+    except (UnicodeDecodeError, tomllib.TOMLDecodeError) as fault:
         raise WrongSettings(f'{path}: {fault}') from fault
     return settings_of(whole)
 

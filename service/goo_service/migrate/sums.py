@@ -16,8 +16,8 @@ from typing import Any
 from typing import TextIO
 
 from goo_service.common.files import write_whole
+from goo_service.migrate import left_out
 from goo_service.migrate import work
-from goo_service.migrate.numbers import SERIALS
 from goo_service.migrate.numbers import text_of
 from goo_service.migrate.settings import Settings
 from goo_service.rules.days import months_after
@@ -26,45 +26,52 @@ STATED_NAME, HELD_NAME, DIFFERENCES = 'sums-tables', 'sums-registry', 'differenc
 TOLD = 100_000
 """Differences that are told one by one."""
 STATED = '''
-SELECT s.first, s.first + s.count - 1, a.number, s.device, d.country, d.site, d.tech, d.source,
-       d.capacity_w, d.commissioned, d.support, s.first_day, s.last_day, s.issued_on, d.carrier
-FROM kept_stock AS s JOIN kept_device AS d ON d.gsrn = s.device
-JOIN kept_account AS a ON a.old = s.account ORDER BY s.first
+SELECT s.first, s.last, a.number, s.origin, s.device, s.country, s.site, s.tech, s.source,
+       s.capacity_w, s.commissioned, s.support, s.first_day, s.last_day, s.issued_on, s.carrier
+FROM stated AS s JOIN kept_account AS a ON a.old = s.account ORDER BY s.first
 '''
 HELD = '''
-SELECT p.first, p.last, p.account, l.device, l.country, l.site, l.tech, l.source, l.capacity_w,
-       l.commissioned, l.support, l.first_day, l.last_day, l.issued_on,
+SELECT p.first, p.last, p.account, l.origin, l.device, l.country, l.site, l.tech, l.source,
+       l.capacity_w, l.commissioned, l.support, l.first_day, l.last_day, l.issued_on,
        coalesce(c.carrier, 'electricity')
 FROM piece AS p JOIN lot AS l ON l.id = p.lot LEFT JOIN lot_carrier AS c ON c.lot = l.id
-WHERE p.first BETWEEN ? AND ? AND p.kind = 1 ORDER BY p.first
+WHERE p.kind = 1 AND p.account >= ? ORDER BY p.first
 '''
 STATED_LOTS = '''
-SELECT a.number, s.device, s.first_day, sum(s.count)
-FROM kept_stock AS s JOIN kept_account AS a ON a.old = s.account GROUP BY 1, 2, 3 ORDER BY 1, 2, 3
+SELECT a.number, s.first / 1000000000000, s.device, s.first_day, sum(s.count)
+FROM kept_stock AS s JOIN kept_account AS a ON a.old = s.account
+GROUP BY 1, 2, 3, 4 ORDER BY 1, 2, 3, 4
 '''
 HELD_LOTS = '''
-SELECT p.account, l.device, l.first_day, sum(p.last - p.first + 1)
+SELECT p.account, l.origin, l.device, l.first_day, sum(p.last - p.first + 1)
 FROM piece AS p JOIN lot AS l ON l.id = p.lot
-WHERE p.first BETWEEN ? AND ? AND p.kind = 1 GROUP BY 1, 2, 3 ORDER BY 1, 2, 3
+WHERE p.kind = 1 AND p.account >= ? GROUP BY 1, 2, 3, 4 ORDER BY 1, 2, 3, 4
 '''
 """The certificates of an account and lot: how many they are."""
 REGISTERED = '''
 SELECT d.gsrn, d.account, d.country, d.site, d.tech, d.source, d.capacity_w, d.commissioned,
-       d.support, coalesce(c.carrier, 'electricity')
-FROM device AS d LEFT JOIN device_carrier AS c ON c.gsrn = d.gsrn ORDER BY d.gsrn
+       d.support, coalesce(c.carrier, 'electricity'),
+       coalesce('declared to ' || d.last_day, 'never declared'), d.carry
+FROM device AS d LEFT JOIN device_carrier AS c ON c.gsrn = d.gsrn WHERE d.account >= ?
+ORDER BY d.gsrn
 '''
 LISTS = {
     'holders': ('SELECT code, name FROM kept_holder ORDER BY code',
-                'SELECT code, name FROM holder ORDER BY code'),
-    'accounts': ('SELECT a.number, h.code FROM kept_account AS a JOIN kept_holder AS h '
+                'SELECT code, name FROM holder AS h WHERE NOT EXISTS (SELECT 1 FROM account '
+                'WHERE number < ? AND holder = h.code) ORDER BY code'),
+    'accounts': ('SELECT a.number, h.code, 0 FROM kept_account AS a JOIN kept_holder AS h '
                  'ON h.old = a.holder ORDER BY a.number',
-                 'SELECT number, holder FROM account ORDER BY number'),
+                 'SELECT number, holder, closed FROM account WHERE number >= ? ORDER BY number'),
     'devices': ('SELECT d.gsrn, a.number, d.country, d.site, d.tech, d.source, d.capacity_w, '
-                'd.commissioned, d.support, d.carrier FROM kept_device AS d '
+                "d.commissioned, d.support, d.carrier, 'never declared', 0 FROM kept_device AS d "
                 'JOIN kept_account AS a ON a.old = d.account ORDER BY d.gsrn',
                 REGISTERED),
 }
-"""What is compared row by row: the query over the tables, and the one over the registry."""
+"""What is compared row by row: the query over the tables, and the one over the registry.
+
+The queries over the registry are told the first account of the migration: what was there before
+is nothing of it.
+"""
 Run = tuple[Any, ...]
 """First and last number, and what is stated of them: account, device, .., carrier."""
 
@@ -73,14 +80,16 @@ Run = tuple[Any, ...]
 class Sums:
     """Certificates counted in several ways."""
 
+    by_registry: Counter[tuple[object, ...]] = field(default_factory=Counter)
     by_kind: Counter[tuple[object, ...]] = field(default_factory=Counter)
     """By technology, month of production, and country."""
     by_deadline: Counter[tuple[object, ...]] = field(default_factory=Counter)
     ranges: int = 0
 
     def add(self, run: Run) -> None:
-        first, last, _, _, country, _, tech, *_, first_day, last_day, _, _ = run
+        first, last, _, origin, _, country, _, tech, *_, first_day, last_day, _, _ = run
         count = last - first + 1
+        self.by_registry[origin,] += count
         self.by_kind[tech, first_day[:7], country] += count
         self.by_deadline[months_after(last_day, 18) or 'never',] += count
         self.ranges += 1
@@ -92,12 +101,13 @@ class Sums:
     def lines(self) -> Iterator[str]:
         """The sums, in one order, but for those by account and lot."""
         yield f'certificates {self.total} in {self.ranges} ranges'
-        for name, counted in (('technology, month, country', self.by_kind),
+        for name, counted in (('registry', self.by_registry),
+                              ('technology, month, country', self.by_kind),
                               ('deadline', self.by_deadline)):
             yield f'by {name}'
             for key, count in sorted(counted.items()):
                 yield f'{words(key)} {count}'
-        yield 'by account, device, first day'
+        yield 'by account, registry, device, first day'
 
 
 @dataclass
@@ -108,6 +118,8 @@ class Comparison:
     held: Sums = field(default_factory=Sums)
     differences: list[str] = field(default_factory=list)
     count: int = 0
+    left_out: list[str] = field(default_factory=list)
+    """What of the old stock stays behind, as it is told."""
 
     def tell(self, difference: str) -> None:
         """Keeps a difference; so many are told one by one."""
@@ -167,13 +179,13 @@ def compare(folder: Path, settings: Settings, registry: Path) -> Comparison:
     The sums are written to a file for each side, so that `diff` shows nothing where they are equal,
     and the differences to a file of theirs.
     """
-    found = Comparison()
+    found, begun = Comparison(), (settings.first_account,)
     with work.opened(folder) as tables, closing(unchanged(registry)) as database:
+        found.left_out += left_out.lines(tables)
         for name, (stated, held) in LISTS.items():
-            compare_rows(name, tables.execute(stated), database.execute(held), found)
-        span = settings.old_code * SERIALS, (settings.old_code + 1) * SERIALS - 1
-        compare_runs(joined(tables.execute(STATED)), joined(database.execute(HELD, span)), found)
-        for name in ('by_kind', 'by_deadline'):
+            compare_rows(name, tables.execute(stated), database.execute(held, begun), found)
+        compare_runs(joined(tables.execute(STATED)), joined(database.execute(HELD, begun)), found)
+        for name in ('by_registry', 'by_kind', 'by_deadline'):
             one, other = getattr(found.stated, name), getattr(found.held, name)
             for key in sorted(one | other):
                 found.tell_sums(key, one[key], other[key])
@@ -183,7 +195,7 @@ def compare(folder: Path, settings: Settings, registry: Path) -> Comparison:
             of_tables.writelines(f'{line}\n' for line in found.stated.lines())
             of_registry.writelines(f'{line}\n' for line in found.held.lines())
             compare_lots(written(tables.execute(STATED_LOTS), of_tables),
-                         written(database.execute(HELD_LOTS, span), of_registry), found)
+                         written(database.execute(HELD_LOTS, begun), of_registry), found)
     for part in parts:
         part.replace(part.with_suffix(''))
     write_whole(folder / DIFFERENCES, ''.join(f'{line}\n' for line in found.differences))
@@ -199,8 +211,8 @@ def written(rows: Iterable[Run], file: TextIO) -> Iterator[Run]:
 
 def compare_lots(stated: Iterable[Run], held: Iterable[Run], found: Comparison) -> None:
     """Compares the sums by account and lot."""
-    for row, other in paired(stated, held, 3):
-        found.tell_sums((row or other or ())[:3], row[3] if row else 0, other[3] if other else 0)
+    for row, other in paired(stated, held, 4):
+        found.tell_sums((row or other or ())[:4], row[4] if row else 0, other[4] if other else 0)
 
 
 def compare_rows(name: str, stated: Iterable[Run], held: Iterable[Run], found: Comparison) -> None:

@@ -1,9 +1,10 @@
-"""The tables of an old registry, read row by row."""
+"""The tables of an old registry, read row by row; and tables that are written."""
 import codecs
 import contextlib
 import csv
 import hashlib
 import json
+from collections.abc import Iterable
 from collections.abc import Iterator
 from dataclasses import dataclass
 from pathlib import Path
@@ -12,10 +13,11 @@ from goo_service.migrate.faults import Fault
 from goo_service.migrate.settings import COLUMNS
 from goo_service.migrate.settings import DELIMITERS
 from goo_service.migrate.settings import NAME
+from goo_service.migrate.settings import OPTIONAL_COLUMNS
+from goo_service.migrate.settings import OPTIONAL_TABLES
 from goo_service.migrate.settings import Settings
 
 FOLDER = 'tables'
-OPTIONAL = ('carried', 'documents')
 MOST_BYTES = 8 << 30                # of a table
 MOST_ROWS = 20_000_000
 MOST_FIELD = 4096                   # characters
@@ -33,7 +35,10 @@ class Refused(Exception):
 
 @dataclass(frozen=True)
 class Row:
-    """A row, numbered from 1, with its fields by our names of the columns."""
+    """A row, numbered from 1, with its fields by our names of the columns.
+
+    A column that the table lacks, and need not have, has empty fields.
+    """
 
     table: str
     number: int
@@ -49,7 +54,7 @@ def path_of(folder: Path, table: str) -> Path:
 
 def is_there(folder: Path, table: str) -> bool:
     """Whether a table is given. All but a few have to be."""
-    return table not in OPTIONAL or path_of(folder, table).exists()
+    return table not in OPTIONAL_TABLES or path_of(folder, table).exists()
 
 
 def hash_of(path: Path) -> str:
@@ -107,6 +112,9 @@ class Places:
 def places_of(table: str, header: list[str], settings: Settings) -> Places:
     """Where each column is that we know. Others may be there too."""
     names = {name: settings.column(table, name) for name in COLUMNS[table]}
+    for name in OPTIONAL_COLUMNS.get(table, ()):
+        if names[name] == name and name not in header:      # and none is named in the settings
+            del names[name]
     for name, called in names.items():
         if header.count(called) != 1:
             found = 'twice' if called in header else 'not there'
@@ -135,7 +143,8 @@ def row_of(table: str, number: int, record: list[str], places: Places,
                      f'it has {len(record)} fields, and the header has {places.width}')
     if long := next((len(field) for field in record if len(field) > MOST_FIELD), 0):
         return Fault('fields', table, number, 'row', f'a field has {long} characters')
-    fields = {name: record[at].strip() for name, at in places.by_name.items()}
+    fields = dict.fromkeys(OPTIONAL_COLUMNS.get(table, ()), '')
+    fields |= {name: record[at].strip() for name, at in places.by_name.items()}
     for name, text in fields.items():
         if not text.isascii() and (why := encoding_fault(text, encoding)):
             return Fault('encoding', table, number, name, why)
@@ -157,3 +166,13 @@ def encoding_fault(text: str, encoding: str) -> str:
         return f'it is {text.encode(encoding).decode()[:40]!r} in utf-8, and {encoding} reads ' \
                f'{text[:40]!r}; {advice}'
     return ''
+
+
+def write_table(path: Path, columns: tuple[str, ...], rows: Iterable[tuple[object, ...]]) -> None:
+    """Writes a CSV in place of the one of before."""
+    part = path.with_suffix('.part')
+    with part.open('w', encoding='utf-8', newline='') as file:
+        writer = csv.writer(file)
+        writer.writerow(columns)
+        writer.writerows(rows)
+    part.replace(path)

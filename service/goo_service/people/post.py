@@ -248,9 +248,9 @@ def run(file: Path, settings: Settings, ended: threading.Event) -> None:
     parts = [of('records', lambda db: Reader(db, Records(settings.records)).turn),
              of('mail', lambda db: Post(db, settings).turn),
              of('webhooks', lambda db: Sender(db, settings).turn)]
+    say(f'sends what waits in {file}')
     for part in parts:
         part.start()
-    say(f'sends what waits in {file}')
     ended.wait()
 
 

@@ -1,22 +1,18 @@
 """goo-people-who: answers nginx's question who is there, for each request.
 
-gunicorn runs `application`. GOO_PEOPLE names the file of people. The question carries what the
-visitor showed: Authorization, the cookie of a session, or the name of a client certificate. The
-answer is 204 with GOO-User, GOO-Entry, GOO-Way, GOO-Hold and GOO-Accounts, else 401, 403 or 429.
-Each question reads the file, so whoever was ended is refused at once.
+The question carries what the visitor showed: Authorization, the cookie of a session, or the name of
+a client certificate. The answer is 204 with GOO-User, GOO-Entry, GOO-Way, GOO-Hold and
+GOO-Accounts, else 401, 403 or 429. Each question reads the file, so whoever was ended is refused at
+once. who_server.py serves it.
 """
 import base64
 import binascii
-import contextlib
-import os
 import sqlite3
-import sys
 import threading
 from collections.abc import Callable
-from collections.abc import Iterable
+from collections.abc import Mapping
 from dataclasses import dataclass
 from pathlib import Path
-from typing import Any
 
 from goo_service.people import basic
 from goo_service.people import csrf
@@ -45,30 +41,28 @@ OF_SUBJECT = (f'SELECT {USER} FROM user u '
               "WHERE u.name = ? AND u.ended IS NULL AND u.source = 'certificate'")
 OF_PROGRAM = (f'SELECT u.password, {USER} FROM user u '
               'WHERE u.name = ? AND u.ended IS NULL AND u.basic_until > ?')
-Environment = dict[str, Any]
-Start = Callable[[str, list[tuple[str, str]]], object]
+Work = Callable[[], None]
 
 
 @dataclass(frozen=True)
 class Answer:
     """An answer to the question."""
 
-    status: str
+    status: int
     user: str = ''
     entry: str = ''
     way: str = ''
     hold: str = ''
     accounts: str = ''
 
-    def fields(self) -> list[tuple[str, str]]:
+    def fields(self) -> dict[str, str]:
         named = {'GOO-User': self.user, 'GOO-Entry': self.entry, 'GOO-Way': self.way,
                  'GOO-Hold': self.hold, 'GOO-Accounts': self.accounts}
-        return [(name, value) for name, value in named.items() if value]
+        return {name: value for name, value in named.items() if value}
 
 
-NOBODY = Answer('401 Unauthorized')
-FOREIGN = Answer('403 Forbidden')
-LATER = Answer('429 Too Many Requests')
+SIGNED_IN = 204
+NOBODY, FOREIGN, LATER = Answer(401), Answer(403), Answer(429)
 
 
 @dataclass(frozen=True)
@@ -83,11 +77,39 @@ class Asked:
     net: str = ''
 
     @staticmethod
-    def of(environment: Environment) -> 'Asked':
-        def field(name: str) -> str:
-            return str(environment.get(f'HTTP_{name}', ''))
-        return Asked(field('AUTHORIZATION'), field('COOKIE'), field('GOO_SUBJECT'),
-                     field('GOO_CSRF'), field('GOO_METHOD'), field('GOO_NET'))
+    def of(fields: Mapping[str, str]) -> 'Asked':
+        """By the fields of the question."""
+        return Asked(*(fields.get(name, '') for name in FIELDS))
+
+
+FIELDS = ('Authorization', 'Cookie', 'GOO-Subject', 'GOO-CSRF', 'GOO-Method', 'GOO-Net')
+"""Those of the question, in the order of what a visitor showed."""
+
+
+@dataclass(frozen=True)
+class Shown:
+    """What Authorization shows: a token, for a name where one is given, or a name's password."""
+
+    name: str
+    word: str
+    is_token: bool
+
+
+def shown_in(authorization: str) -> Shown | None:
+    """None where it shows neither."""
+    kind, _, value = authorization.partition(' ')
+    if kind.lower() == 'bearer':
+        return Shown('', value.strip(), True)
+    if kind.lower() != 'basic' or len(value) > 2 * LONGEST:
+        return None
+    try:
+        text = base64.b64decode(value.strip(), validate=True).decode()
+    except (binascii.Error, ValueError):
+        return None
+    name, _, word = text.partition(':')
+    if not name or not word or '\0' in text:
+        return None
+    return Shown(name, word, word.startswith(TOKEN))
 
 
 def accounts_of(row: sqlite3.Row) -> str:
@@ -126,10 +148,11 @@ def cookie_in(text: str) -> str:
 
 
 class Door:
-    """Answers over one file. Each thread has a connection of its own."""
+    """Answers over one file. Each thread has a connection of its own. `later` does work that
+    nobody waits for; unless told it is done at once."""
 
-    def __init__(self, path: Path) -> None:
-        self.path, self.own, self.basic = path, threading.local(), Basic()
+    def __init__(self, path: Path, later: Callable[[Work], object] = lambda work: work()) -> None:
+        self.path, self.own, self.basic, self.later = path, threading.local(), Basic(), later
 
     def database(self) -> sqlite3.Connection:
         db: sqlite3.Connection | None = getattr(self.own, 'db', None)
@@ -154,21 +177,12 @@ class Door:
         return self.of_certificate(asked.subject) if asked.subject else NOBODY
 
     def of_authorization(self, asked: Asked) -> Answer:
-        kind, _, value = asked.authorization.partition(' ')
-        if kind.lower() == 'bearer':
-            return self.of_token('', value.strip(), asked.method)
-        if kind.lower() != 'basic' or len(value) > 2 * LONGEST:
+        shown = shown_in(asked.authorization)
+        if shown is None:
             return NOBODY
-        try:
-            text = base64.b64decode(value.strip(), validate=True).decode()
-        except (binascii.Error, ValueError):
-            return NOBODY
-        name, _, word = text.partition(':')
-        if not name or not word or '\0' in text:
-            return NOBODY
-        if word.startswith(TOKEN):
-            return self.of_token(name, word, asked.method)
-        return self.of_program(name, word, asked.net)
+        if shown.is_token:
+            return self.of_token(shown.name, shown.word, asked.method)
+        return self.of_program(shown.name, shown.word, asked.net)
 
     def of_program(self, name: str, word: str, net: str) -> Answer:
         """A password of a program that was taken over, until its day is over."""
@@ -181,7 +195,7 @@ class Door:
                 return NOBODY
         except basic.TooOften:
             return LATER
-        return Answer('204 No Content', row['name'], entry_of(row), 'password', '',
+        return Answer(SIGNED_IN, row['name'], entry_of(row), 'password', '',
                       accounts_of(row))
 
     def of_token(self, name: str, text: str, method: str) -> Answer:
@@ -196,7 +210,7 @@ class Door:
         if method in READS and not row['reads']:
             return FOREIGN
         self.note('UPDATE token SET used = ? WHERE id = ?', row['id'], row['used'])
-        return Answer('204 No Content', row['name'], entry_of_token(row), f'token {row["token"]}',
+        return Answer(SIGNED_IN, row['name'], entry_of_token(row), f'token {row["token"]}',
                       f't{row["id"]}', accounts_of(row))
 
     def of_session(self, cookie: str, asked: Asked) -> Answer:
@@ -211,8 +225,8 @@ class Door:
         self.note('UPDATE session SET seen = ? WHERE id = ?', row['id'], row['seen'])
         hold = f's{row["id"]}'
         if row['way'] == sessions.ENROL:
-            return Answer('204 No Content', row['name'], 'none', sessions.ENROL, hold)
-        return Answer('204 No Content', row['name'], entry_of(row), 'session', hold,
+            return Answer(SIGNED_IN, row['name'], 'none', sessions.ENROL, hold)
+        return Answer(SIGNED_IN, row['name'], entry_of(row), 'session', hold,
                       accounts_of(row))
 
     def of_certificate(self, subject: str) -> Answer:
@@ -220,28 +234,18 @@ class Door:
         row = self.database().execute(OF_SUBJECT, (subject[:LONGEST],)).fetchone()
         if row is None or row['name'] != subject:
             return NOBODY
-        return Answer('204 No Content', row['name'], entry_of(row), 'certificate', '',
+        return Answer(SIGNED_IN, row['name'], entry_of(row), 'certificate', '',
                       accounts_of(row))
 
     def note(self, statement: str, number: int, before: int | None) -> None:
         """When something was last used, once a minute. Where it can't be written it is left out."""
         at = now()
-        if before is None or at - before >= sessions.SEEN_EACH:
-            with contextlib.suppress(sqlite3.Error):
+
+        def write() -> None:
+            try:
                 self.database().execute(statement, (at, number))
+            except (store.Fault, sqlite3.Error, OSError):
+                self.forget()
 
-
-def application(path: Path | None = None) -> Callable[[Environment, Start], Iterable[bytes]]:
-    """The WSGI application over a file of people."""
-    door = Door(path or Path(os.environ.get('GOO_PEOPLE') or store.FILE))
-
-    def answer(environment: Environment, start: Start) -> Iterable[bytes]:
-        try:
-            of = door.answer(Asked.of(environment))
-            start(of.status, of.fields())
-        except (store.Fault, sqlite3.Error, OSError) as fault:
-            door.forget()
-            print(f'people: {fault}', file=sys.stderr, flush=True)
-            start('503 Service Unavailable', [])
-        return ()
-    return answer
+        if before is None or at - before >= sessions.SEEN_EACH:
+            self.later(write)

@@ -13,6 +13,7 @@ from pathlib import Path
 from goo_service.common.client import Client
 from goo_service.common.client import NoAnswer
 from goo_service.log import ends
+from goo_service.log import reader
 from goo_service.log import entries
 from goo_service.records.schema import Mismatch
 
@@ -70,11 +71,11 @@ def place_in(copy: Path) -> Place | None:
 def check_first_entry(archive: Path, place: Place) -> None:
     """Raises Mismatch unless the entries of an archive go on from a place."""
     try:
-        record = next(entries.read_archive(archive, after=place.entry), None)
+        record = next(reader.read_archive(archive, after=place.entry), None)
     except entries.Broken:
         return                      # whoever reads on tells it with its place
-    begins = next((number for path in entries.months(archive)
-                   if (number := entries.first_number(path)) is not None), None)
+    begins = next((number for path in reader.months(archive)
+                   if (number := reader.first_number(path)) is not None), None)
     wanted, last = place.entry + 1, last_number(archive)
     if record is None and begins is not None and last < place.entry:
         raise Mismatch(f'{archive} ends at entry {last}, and the book would begin '
@@ -89,8 +90,8 @@ def check_first_entry(archive: Path, place: Place) -> None:
 
 def last_number(archive: Path) -> int:
     """The number of the last whole entry of an archive, 0 where there is none."""
-    for path in reversed(entries.months(archive)):
-        number = ends.last_of(path, entries.number_in, size=END)[0]
+    for path in reversed(reader.months(archive)):
+        number = ends.last_of(path, reader.number_in, size=END)[0]
         if number:
             return int(number)
     return 0

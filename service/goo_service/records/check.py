@@ -23,6 +23,7 @@ from goo_service.common.owner import owner_of
 from goo_service.copies import contents
 from goo_service.copies.expected import ROWS
 from goo_service.log import bundles
+from goo_service.log import reader
 from goo_service.log import entries
 from goo_service.log import roles
 from goo_service.records import table_rows
@@ -178,7 +179,7 @@ class Since:
 
 def records_between(archive: Path, copy: Copy, last: int) -> Iterator[entries.Record]:
     """The records after a copy, up to an entry. The first one has to follow the copy's."""
-    for record in entries.read_archive(archive, after=copy.entry):
+    for record in reader.read_archive(archive, after=copy.entry):
         if record.entry.n == copy.entry + 1 and copy.hash not in (None, record.entry.prev):
             raise Mismatch(f'entry {record.entry.n} does not follow the entry at which {copy.path} '
                            'was made: the copy is of another log')

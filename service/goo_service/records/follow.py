@@ -21,6 +21,7 @@ from typing import Any
 from goo_service.common.files import sync_folder
 from goo_service.common.files import write_whole
 from goo_service.copies.kept import Copy
+from goo_service.log import reader
 from goo_service.log import entries
 from goo_service.records.beginning import Place
 from goo_service.records.beginning import check_first_entry
@@ -182,7 +183,7 @@ def records_of(archive: Path, after: int) -> Iterator[entries.Record | None]:
     def read() -> None:
         last = after
         try:
-            for record in entries.read_archive(archive, after=after, follow=True):
+            for record in reader.read_archive(archive, after=after, follow=True):
                 if record.entry.n != last + 1:
                     raise entries.Broken(f'entry {record.entry.n} comes next')
                 found.put(record, ANY + len(record.entry.body) + len(record.outcome.body))

@@ -10,7 +10,7 @@ from collections.abc import Iterator
 from pathlib import Path
 from typing import Any
 
-from goo_service.log import entries
+from goo_service.log import reader
 from goo_service.records.beginning import Place as Beginning
 from goo_service.records.beginning import last_number
 from goo_service.records.book import Book
@@ -72,7 +72,7 @@ def check_end(archive: Path, entry: int, digest: str | None) -> None:
     until = time.monotonic() + PATIENCE
     while last_number(archive) < entry and time.monotonic() < until:
         time.sleep(0.5)
-    record = next(entries.read_archive(archive, after=entry - 1), None)
+    record = next(reader.read_archive(archive, after=entry - 1), None)
     if record is None:
         raise Unfit(f'it goes to entry {entry}, and {archive} ends before')
     if record.entry.n > entry + 1:

@@ -5,7 +5,7 @@ import uuid
 from dataclasses import dataclass
 from typing import Any
 
-from house import ISSUER
+from calls import ISSUER
 from house import House
 from mutations import gsrn
 

@@ -17,7 +17,7 @@ from goo_service.rules.registry import Registry
 from goo_service.rules.replies import reply
 from house import CODE
 from house import House
-from house import ISSUER
+from calls import ISSUER
 from mutations import gsrn
 from selenium.webdriver.common.keys import Keys
 

@@ -8,7 +8,7 @@ from browser.german import english_in
 from browser.signed import Signed
 from goo_service.people import store
 from goo_service.people.store import changing
-from house import TOP
+from door import TOP
 from house import House
 from house_people import word_of
 from selenium.webdriver.common.keys import Keys

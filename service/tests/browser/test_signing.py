@@ -67,9 +67,7 @@ Opened = Callable[[], Browser]
 @pytest.fixture(scope='module')
 def certified() -> Iterator[House]:
     """A house whose users have certificates."""
-    house = House()
-    house.door.certificates, house.door.more = True, ()
-    with house:
+    with House(certificates=True, more=()) as house:
         stage.open_holder(house, 'SUN')
         yield house
 
@@ -100,8 +98,8 @@ def test_signed_in_by_a_certificate(certified: House, opened: Opened) -> None:
     page.see('main .result.good', 'Nothing is done with your certificate')
     page.look('signed-out-certificate')
     assert page.script(STATUS) == 403
-    asked = certified.door.ask(None, 'GET', '/', certificate='anna')    # a program still does
-    assert asked[1]['GOO-Signed-In'] == 'SUN'
+    answer = certified.ask(None, 'GET', '/', certificate='anna')    # a program still does
+    assert answer.fields['goo-signed-in'] == 'SUN'
     page.set_language('de', wait='main .result.good')
     page.see('main .result.good', 'Mit Ihrem Zertifikat geschieht nichts mehr')
     assert page.script(STATUS) == 403 and english_in(page) == []

@@ -1,7 +1,7 @@
 """The page on which each role lands, and the ways from a row to the act on it."""
 from browser import stage
 from browser.conftest import Visit
-from house import ISSUER
+from calls import ISSUER
 from house import House
 
 

@@ -150,7 +150,7 @@ def test_a_password_is_lost() -> None:
     done = run('goo-setup', 'user', 'add', 'anna', 'SUN', input='of-anna-first\n')
     assert done.returncode == 0, done
     assert comes(lambda: door('/', 'anna', 'of-anna-first') == '200')
-    play('A password is lost', stdin='of-anna-second\n')
+    play('A password is lost', 0, stdin='of-anna-second\n')
     assert comes(lambda: [door('/', 'anna', word) for word in ('of-anna-second', 'of-anna-first')]
                  == ['200', '401'])
 

@@ -11,6 +11,7 @@ from collections.abc import Callable
 from pathlib import Path
 
 import client
+from goo_service.log import reader
 from goo_service.log import entries
 from goo_service.log import roles
 from goo_service.log.entries import Entry
@@ -49,10 +50,10 @@ def whole_log(cluster: Cluster) -> list[Entry]:
 
 def log_of_one(cluster: Cluster) -> list[Entry]:
     host, key = cluster.hosts[0], entries.read_key(cluster.folder / 'mac.key')
-    archive = [record.entry for record in entries.read_archive(host.state / 'archive', 0, key)]
+    archive = [record.entry for record in reader.read_archive(host.state / 'archive', 0, key)]
     log = [entries.read_entry(line, key)
            for path in sorted((host.state / 'log').glob('*.jsonl'))
-           for line, _ in entries.lines(path)]
+           for line, _ in reader.lines(path)]
     assert log == archive[len(archive) - len(log):]
     return archive
 
@@ -270,7 +271,7 @@ def must_be_archived(cluster: Cluster, clients: Clients) -> None:
     key, ends = entries.read_key(cluster.folder / 'mac.key'), set()
     for host in cluster.hosts:
         seen = collections.Counter[bool]()
-        for record in entries.read_archive(host.state / 'archive', 0, key):
+        for record in reader.read_archive(host.state / 'archive', 0, key):
             if op := told.get(record.entry.n):
                 route, outcome = record.entry.route, record.outcome
                 text = entries.comparable(route, op['status'], op['text'].encode())

@@ -10,7 +10,7 @@ from typing import Any
 from typing import TYPE_CHECKING
 
 import client
-from house import SERVICE
+from door import SERVICE
 from replicas.talk import CODE
 from replicas.talk import Done
 from replicas.talk import GOO

@@ -12,12 +12,12 @@ from typing import Any
 from typing import Protocol
 
 import client
-import loopback
-from house import SERVICE
+from door import SERVICE
+from programs import find_registry
 from service_commands import command
 
 TOP = Path(__file__).resolve().parents[3]
-GOO = loopback.program()
+GOO = find_registry()
 (REPLICA,), (REPLICA_LOG,) = command('goo-replica', SERVICE), command('goo-replica-log', SERVICE)
 CRASHING = ('/usr/bin/python3', '-P', TOP / 'tools/lib/crashing_replica.py')
 LIBC = ctypes.CDLL(None, use_errno=True)

@@ -7,7 +7,7 @@ from collections.abc import Iterator
 from pathlib import Path
 
 import pytest
-from house import SERVICE
+from door import SERVICE
 from replicas.clients import Clients
 from replicas.cluster import Cluster
 from replicas.cluster import GATE

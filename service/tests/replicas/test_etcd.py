@@ -7,7 +7,7 @@ from pathlib import Path
 
 import pytest
 from goo_service.log import entries
-from house import SERVICE
+from door import SERVICE
 from replicas.clients import Clients
 from replicas.cluster import Cluster
 from replicas.conftest import Make

@@ -18,6 +18,7 @@ from pathlib import Path
 
 import client
 import pytest
+from goo_service.log import reader
 from goo_service.log import entries
 from mutations import gsrn
 from replicas.clients import Clients
@@ -81,7 +82,7 @@ def replayed_archive(cluster: Cluster) -> Rows:
     db.parent.mkdir()
     shutil.copy(cluster.folder / 'begun.db', db)
     bare = Bare(cluster, db)
-    for one in entries.read_archive(cluster.hosts[0].state / 'archive'):
+    for one in reader.read_archive(cluster.hosts[0].state / 'archive'):
         if is_carried_out(one.entry) and one.outcome.status != entries.SET_ASIDE:
             bare.ask('POST', one.entry.route, one.entry.caller, one.entry.body)
     bare.stop()
@@ -331,7 +332,7 @@ def test_a_program_of_another_version(cluster: Cluster, clients: Clients) -> Non
     host.must_refuse('version')
     set_version(host, 'next')
     done = clients.request('ISSUER', 0, 'open_account', 'next-version', holder='C1')
-    last = next(iter(entries.read_archive(host.state / 'archive', done['entry'] - 1))).entry
+    last = next(iter(reader.read_archive(host.state / 'archive', done['entry'] - 1))).entry
     assert last.version == 'next' and done['status'] == 200
     set_version(host, VERSION)
     cluster.even(60)
@@ -401,8 +402,8 @@ def must_be_whole(folder: Path, cluster: Cluster, entry: int) -> None:
     """Log and archive are there up to an entry."""
     key = entries.read_key(cluster.folder / 'mac.key')
     log = [line for path in sorted((folder / 'log').glob('*.jsonl'))
-           for line, _ in entries.lines(path)]
-    archive = list(entries.read_archive(folder / 'archive', 0, key))
+           for line, _ in reader.lines(path)]
+    archive = list(reader.read_archive(folder / 'archive', 0, key))
     assert entries.read_entry(log[-1], key).n == archive[-1].entry.n == entry
 
 
