@@ -102,7 +102,10 @@ def test_the_result_passes_a_recount(rehearsed: Path, tmp_path: Path) -> None:
     ("UPDATE holder SET name = 'Nobody' WHERE code = 'H00001'", 'Nobody'),
     ('UPDATE device SET capacity_w = 7 WHERE gsrn = (SELECT min(gsrn) FROM device)', 'devices'),
     ('DELETE FROM piece WHERE first = (SELECT max(first) FROM piece)', 'in the tables, and not'),
-    ("UPDATE account SET holder = 'H00001' WHERE number = 1", 'accounts 1')])
+    ("UPDATE account SET holder = 'H00001' WHERE number = 1", 'accounts 1'),
+    ('UPDATE account SET closed = 1 WHERE number = 8', 'accounts 8'),
+    ("UPDATE device SET last_day = '2025-03-31', carry = 5 WHERE gsrn = "
+     '(SELECT min(gsrn) FROM device)', 'declared to 2025-03-31 5')])
 def test_a_difference_in_the_result_is_told(rehearsed: Path, tmp_path: Path, change: str,
                                             told: str) -> None:
     place = copied(rehearsed, tmp_path)
@@ -200,6 +203,9 @@ def test_an_account_has_its_number_in_the_plan(rehearsed: Path) -> None:
     steps = list(sending.steps_in(rehearsed))
     replies = [step.reply['account'] for step in steps if step.body['command'] == 'open_account']
     assert replies == list(range(1, 9))
+    numbers = account_numbers(old_registry.read_tables(rehearsed))
+    _, *rows = (rehearsed / plan.ACCOUNTS).read_text(encoding='utf-8').splitlines()
+    assert {row.split(',')[4]: int(row.split(',')[2]) for row in rows} == numbers
     keys = [step.body['key'] for step in steps]
     assert len(set(keys)) == len(keys) and all(len(key) <= 40 for key in keys)
     parts = [len(step.body['notice']['parts']) for step in steps
@@ -262,6 +268,18 @@ def test_a_protocol_is_verified_with_its_files(rehearsed: Path, tmp_path: Path, 
     (place / protocol.NAME).write_text(text.replace('"differences": 0', '"differences": 1'),
                                        encoding='utf-8')
     assert 'is not signed' in protocol.faults(place, None)[0]
+
+
+def test_a_protocol_that_tells_of_a_difference_does_not_hold(rehearsed: Path, tmp_path: Path,
+                                                             key: Key) -> None:
+    place = copied(rehearsed, tmp_path)
+    registry, read = place / 'rehearsal/registry.db', settings.read(place)
+    with closing(sqlite3.connect(registry)) as database, database:
+        database.execute('DELETE FROM piece WHERE first = (SELECT max(first) FROM piece)')
+    found = compare(place, read, registry)
+    protocol.write(place, read, found, registry, key)
+    assert found.count > 1 and protocol.faults(place, key.public) == [
+        f'{found.count} differences between the tables and the registry']
 
 
 def test_a_protocol_of_another_key_is_refused(rehearsed: Path, tmp_path: Path, key: Key) -> None:

@@ -138,8 +138,6 @@ class Service:
             return reply(plain(503), {})
         if replica.journal.is_aside(call.caller, call.target, call.body):
             return reply(plain(entries.SET_ASIDE, 'Set aside'), {})
-        if replica.options.etcd:                # a host of before could read no such entry
-            call.way = call.confirmed = ''
         if call.target == bundles.WHOLE:
             return self.keep(self.append_whole(call, reply))
         self.append(call, reply)
