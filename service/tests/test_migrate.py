@@ -22,7 +22,7 @@ from cryptography.hazmat.primitives.serialization import PrivateFormat
 from goo_service.common.client import Answer
 from goo_service.common.client import Client
 from goo_service.exchange.signature import Key
-from goo_service.log.closed import closed_in
+from goo_service.log.closed import read_closed
 from goo_service.migrate import documents
 from goo_service.migrate import enquiry
 from goo_service.migrate import plan
@@ -391,7 +391,7 @@ def test_the_old_registry_is_closed_once_and_open_again(rehearsed: Path, tmp_pat
     words = [*command('goo-migrate', SERVICE), 'close', str(rehearsed), '--closed', str(path)]
     for _ in range(2):
         subprocess.run(words, check=True, capture_output=True)
-    assert closed_in(path) == {'8', '9'}
+    assert read_closed(path) == {'8', '9'}
     assert len(path.read_text().splitlines()) == 2
     for _ in range(2):
         subprocess.run([*words, '--open'], check=True, capture_output=True)
@@ -449,7 +449,7 @@ def test_a_document_is_shown_to_its_holder(folder: Path, tmp_path: Path) -> None
     shown = Attachments(into)
     digest = hashlib.sha256(b'%PDF-1.7 old').hexdigest()
     for viewer, sees in (('ISSUER', True), ('H00001', True), ('H00002', False)):
-        rows = list(shown.listed(Viewer(viewer), {}).rows)
+        rows = list(shown.fetch_page(Viewer(viewer), {}).rows)
         assert [row['sha256'] for row in rows] == ([digest] if sees else [])
     assert shown.content(Viewer('H00001'), 1)[1] == b'%PDF-1.7 old'
     with pytest.raises(NotFound):

@@ -107,7 +107,7 @@ def begin(given: Beginning) -> int:
         running.place_log()
     elif given.join:
         cluster.place_etcd()
-        cluster.found_log(given.join)
+        cluster.begin_log(given.join)
     if registry.place_directory(given) and given.directory:
         run('systemctl', 'try-restart', 'goo-records-web')
     running.start_units(are_timers=False)
