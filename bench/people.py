@@ -4,8 +4,8 @@
 usage: python3 bench/people.py [REQUESTS]
 
 A house of service/tests/house.py stands on this machine with its limits opened, and `ab` of apache2-utils asks it through TLS, over 16 connections that go on: a file behind the sign-in, which costs
-nginx and the question alone, and a read of the registry, with a session and with a token each. Beside it the file way, where nginx compares a password once in half a minute. The processor time is
-that of all processes of goo-people-who, of nginx and of `ab`, by /proc. The first line is the question alone, at its socket in one process.
+nginx and the question alone, a read of the registry, and a write, which the gate judges, with a session and with a token each. Beside it the file way, where nginx compares a password once in half a
+minute. The processor time is that of all processes of goo-people-who, of goo-people-gate, of nginx and of `ab`, by /proc. The first line is the question alone, in one process.
 """
 import os
 import re
@@ -22,7 +22,9 @@ from goo_service.people import who
 from house import House
 
 AT_ONCE = 16
-PATHS = {'a file': '/openapi.yaml', 'a read': '/v1/certificates/1'}
+PATHS = {'a file': '/openapi.yaml', 'a read': '/v1/certificates/1', 'a write': '/v1/requests'}
+PARTS = 'who', 'gate', 'nginx'
+WRITE = b'{"command":"open_holder","key":"bench","holder":"BENCH","name":"Bench"}'
 TICK = os.sysconf('SC_CLK_TCK')
 
 
@@ -36,23 +38,26 @@ def spent(processes):
 
 
 def asked(house, path, count, *fields):
-    """Requests a second, and processor milliseconds a request of goo-people-who, nginx and ab."""
-    parts = {name: house.parts[name].processes() for name in ('who', 'nginx') if name in house.parts}
+    """Requests a second, and processor milliseconds a request of each part and of ab. What is written is the same each time: the registry repeats its answer."""
+    parts = {name: house.parts[name].processes() for name in PARTS if name in house.parts}
     before = {name: spent(numbers) for name, numbers in parts.items()}
     words = [word for field in fields for word in ('-H', field)]
+    if path == PATHS['a write']:
+        (body := house.folder / 'write').write_bytes(WRITE)
+        words += ['-p', str(body), '-T', 'application/json']
     begun, ab = time.monotonic(), os.times().children_user + os.times().children_system
     done = subprocess.run(['ab', '-q', '-k', '-l', '-n', str(count), '-c', str(AT_ONCE), *words, f'https://localhost:{house.port}{path}'], capture_output=True, text=True, check=True)
     seconds, ab = time.monotonic() - begun, os.times().children_user + os.times().children_system - ab
     refused = re.search(r'Non-2xx responses: +(\d+)', done.stdout)
-    if refused and path == PATHS['a file']:
+    if refused and path != PATHS['a read']:
         sys.exit(f'{refused[1]} of {count} were not answered: {done.stdout}')
-    cost = {name: 1000 * (spent(numbers) - before[name]) / count for name, numbers in parts.items()}
-    return count / seconds, cost.get('who'), cost['nginx'], 1000 * ab / count
+    return count / seconds, *(1000 * (spent(parts[name]) - before[name]) / count if name in parts else None for name in PARTS), 1000 * ab / count
 
 
 def row(name, what, found):
-    rate, cost, nginx, ab = found
-    print(f'| {name} | {what} | {rate:,.0f} | {"" if cost is None else f"{cost:.2f}"} | {nginx:.2f} | {ab:.2f} |', flush=True)
+    rate, *costs, ab = found
+    told = ' | '.join('' if cost is None else f'{cost:.2f}' for cost in costs)
+    print(f'| {name} | {what} | {rate:,.0f} | {told} | {sum(cost or 0 for cost in costs):.2f} | {ab:.2f} |', flush=True)
 
 
 def alone(house, name, shown, count):
@@ -70,14 +75,15 @@ def main():
     count = int(sys.argv[1]) if len(sys.argv) > 1 else 4000
     print(f'load {os.getloadavg()[0]:.1f} at the beginning, {os.cpu_count()} processors')
     with House(people=True, rate=10_000) as house:
-        session, token = house.people.sign_in('office').cookie, house.users['office']
-        ways = {'session': f'Cookie: __Host-goo={session}', 'token': f'Authorization: Bearer {token}'}
-        alone(house, 'session', {'Cookie': f'__Host-goo={session}'}, count)
+        office, token = house.people.sign_in('office'), house.users['office']
+        cookie = f'__Host-goo={office.cookie}'
+        ways = {'session': (f'Cookie: {cookie}', f'GOO-CSRF: {office.csrf}'), 'token': (f'Authorization: Bearer {token}',)}
+        alone(house, 'session', {'Cookie': cookie}, count)
         alone(house, 'token', {'Authorization': f'Bearer {token}'}, count)
-        print('\n| Signed in by | Asks for | a second | goo-people-who, ms a request | nginx, ms | ab, ms |\n|---|---|---|---|---|---|')
-        for name, field in ways.items():
+        print('\n| Signed in by | Asks for | a second | goo-people-who, ms a request | goo-people-gate, ms | nginx, ms | these together, ms | ab, ms |\n|---|---|---|---|---|---|---|---|')
+        for name, fields in ways.items():
             for what, path in PATHS.items():
-                row(name, what, asked(house, path, count, field))
+                row(name, what, asked(house, path, count, *fields))
     with House(rate=10_000) as house:
         field = f'Authorization: Basic {basic("office", house.users["office"])}'
         for what, path in PATHS.items():

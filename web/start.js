@@ -6,8 +6,10 @@ import {PLACES} from './charts.js';
 import {briefActs} from './history.js';
 import {notice} from './holdings.js';
 import {t} from './language.js';
+import {asked as askedOfPeople} from './people.js';
 import {asked, everyItem} from './records.js';
 import {memory, monthsAfter, session, today} from './session.js';
+import {way} from './way.js';
 import {problemOf} from './words.js';
 
 const DAYS = 7, SHOWN = 5, MOST = 1000;
@@ -26,6 +28,16 @@ const nothing = (text) => h('p', {class: 'quiet'}, text);
 const more = (href, text) => h('p', {class: 'way'}, h('a', {href}, text));
 /** What stands out, with the way to it. */
 const told = (text, href, way) => h('p', {class: 'result kept', role: 'note'}, text, ' ', h('a', {href}, way));
+
+/** Whether other users' requests may wait for this one: with goo-people, and a role that confirms. */
+const mayConfirm = () => way.me !== null && !['auditor', 'meters'].includes(way.me.role);
+
+/** What others asked that waits for this user. */
+async function toConfirm() {
+  const items = (await askedOfPeople('waiting')).items.filter((of) => of.may.includes('confirm'));
+  if (!items.length) return nothing(t`No request waits for you.`);
+  return told(items.length === 1 ? t`1 request waits until you confirm or refuse it.` : t`${count(items.length)} requests wait until you confirm or refuse them.`, '#waiting', t`Which ones`);
+}
 
 // ------------------------------------------------------------------ the issuing body
 
@@ -104,5 +116,6 @@ const PARTS = {
 
 export async function start() {
   const role = !session.isIssuer ? 'holder' : session.isFull ? 'officer' : 'auditor';
-  return [h('h1', {}, t`Start`), await Promise.all(PARTS[role].map(([title, make]) => part(title, make))), role === 'auditor' ? more('#audit', t`The audit, device by device`) : null];
+  const parts = [...mayConfirm() ? [[t`Waits for you`, toConfirm]] : [], ...PARTS[role]];
+  return [h('h1', {}, t`Start`), await Promise.all(parts.map(([title, make]) => part(title, make))), role === 'auditor' ? more('#audit', t`The audit, device by device`) : null];
 }

@@ -376,7 +376,7 @@ export const WORDS = {
   'Tick at least one thing that it may do.': 'Kreuzen Sie mindestens eines an, was es darf.', 'Tick what may be done.': 'Kreuzen Sie an, was erlaubt ist.', 'Tokens of programs': 'Tokens für Programme',
   'Too many tries': 'Zu viele Versuche', 'Transfers': 'Übertragungen', 'Type the code that the app shows now.': 'Tippen Sie den Code, den die App jetzt zeigt.', 'Use the security key': 'Sicherheitsschlüssel benutzen',
   'Users': 'Benutzer', 'Wait an hour, then open the link again.': 'Warten Sie eine Stunde, und öffnen Sie den Link dann noch einmal.',
-  'Wait {} seconds, then try again.': 'Warten Sie {} Sekunden, und versuchen Sie es dann noch einmal.', 'Waiting': 'Wartend', 'Waits for so many days': 'Wartet so viele Tage', 'Waits until': 'Wartet bis',
+  'Wait {} seconds, then try again.': 'Warten Sie {} Sekunden, und versuchen Sie es dann noch einmal.', 'Waiting': 'Wartend', 'Waits for you': 'Wartet auf Sie', 'No request waits for you.': 'Kein Antrag wartet auf Sie.', '1 request waits until you confirm or refuse it.': '1 Antrag wartet, bis Sie ihn bestätigen oder ablehnen.', '{} requests wait until you confirm or refuse them.': '{} Anträge warten, bis Sie sie bestätigen oder ablehnen.', 'Waits for so many days': 'Wartet so viele Tage', 'Waits until': 'Wartet bis',
   'Way of signing in': 'Art der Anmeldung', 'Webhooks': 'Webhooks', 'Welcome, {}': 'Willkommen, {}',
   'What a rule takes waits until a second user confirms it; it lapses after its days. Of two rules the stricter counts.': 'Was unter eine Regel fällt, wartet, bis ein zweiter Benutzer es bestätigt; nach ihren Tagen verfällt es. Von zwei Regeln gilt die strengere.',
   'What all holders ask': 'Anträge aller Inhaber',

@@ -10,7 +10,7 @@ from pathlib import Path
 import pytest
 
 from goo_service.log import bounds
-from goo_service.log.closed import closed_in
+from goo_service.log.closed import read_closed
 
 TODAY = datetime.date(2026, 3, 1)
 HEADER = b'key,device,first_day,last_day,gross_wh,aux_wh\n'
@@ -124,10 +124,10 @@ def test_no_spelling_of_such_a_move_goes_by(body: bytes) -> None:
 def test_a_closed_registry_sends_nothing_more(tmp_path: Path, body: bytes,
                                               status: int | None) -> None:
     path = tmp_path / 'closed-registries'
-    host = bounds.Host(TODAY, '', closed_in(path))
+    host = bounds.Host(TODAY, '', read_closed(path))
     assert bounds.of_request('ISSUER', body, host) is None
     path.write_text('08 Registry of before, since 2025-03-01\n\n# none\n')
-    host = bounds.Host(TODAY, '', closed_in(path))
+    host = bounds.Host(TODAY, '', read_closed(path))
     found = bounds.of_request('ISSUER', body, host)
     assert status_of(found) == status and (not found or 'registry 8 is closed' in found.error)
 

@@ -128,7 +128,7 @@ def test_a_connection_that_is_kept(server: Server) -> None:
         one.sendall(WHOLE)
         gone.wait(20)
     server.serve(talk)
-    with Client(server.address).kept('/replica/hold') as kept:
+    with Client(server.address).keep_open('/replica/hold') as kept:
         assert kept.answer.body == b'hello' and kept.lasts()
         gone.set()
         until = time.monotonic() + 20
@@ -139,5 +139,5 @@ def test_a_connection_that_is_kept(server: Server) -> None:
 
 def test_a_fault_of_the_caller_stays_its_own(server: Server) -> None:
     server.serve(sends(WHOLE))
-    with pytest.raises(OSError, match='disk'), Client(server.address).kept('/'):
+    with pytest.raises(OSError, match='disk'), Client(server.address).keep_open('/'):
         raise OSError('disk')

@@ -526,7 +526,7 @@ def test_writes_wait_while_the_file_is_copied_and_go_on_however_it_ends(log_hous
     house.make_country()
     program = ('import sys, time; sys.path.insert(0, sys.argv[1])\n'
                'from goo_service.log import hold as holding\n'
-               'with holding.held(sys.argv[2]) as hold:\n'
+               'with holding.hold_replica(sys.argv[2]) as hold:\n'
                '    print(hold.n, flush=True)\n'
                '    time.sleep(float(sys.argv[3]))\n'
                '    print(hold.lasts(), flush=True)\n')

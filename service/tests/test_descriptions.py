@@ -109,7 +109,7 @@ def test_each_route_is_described_with_its_parameters() -> None:
 def test_answers_are_as_they_are_described(made: Made, known: dict[str, list[str]],
                                            operation: Operation,
                                            monkeypatch: pytest.MonkeyPatch) -> None:
-    monkeypatch.setattr(feed, 'moved_on', lambda *_: False)         # nobody waits for the next act
+    monkeypatch.setattr(feed, 'wait_for_entry', lambda *_: False)   # nobody waits
     client = made.client()
 
     def ask(path: str, query: dict[str, str], caller: str) -> int:

@@ -5,7 +5,7 @@ from typing import Any
 import pytest
 from goo_service.records import numbers
 from goo_service.records.numbers import DocumentNumber
-from goo_service.records.numbers import listed
+from goo_service.records.numbers import render_list
 from goo_service.records.numbers import read_numbers
 from goo_service.records.questions import BadQuestion
 from hypothesis import given
@@ -113,7 +113,7 @@ AFTER = strategies.sampled_from([',', ', ', ' ', ' und ', ' and ', '; '])
 
 @given(NUMBERS, BETWEEN, AFTER)
 def test_a_list_is_read_however_it_is_written(of: list[int], between: str, after: str) -> None:
-    text = listed(sorted(of)).replace('-', between).replace(',', after)
+    text = render_list(sorted(of)).replace('-', between).replace(',', after)
     assert read_numbers(text, 'number') == sorted(of)
 
 

@@ -294,6 +294,26 @@ def test_a_set_up_that_nobody_answers_says_what_it_lacks(
     assert f'goo-setup: {lacks}' in done.err and 'was not given' in done.err, done
 
 
+def test_a_provider_is_reached_as_long_as_a_file_names_one(stage: Stage) -> None:
+    path, drop_in = '/etc/goo/people-oidc.conf', '/etc/systemd/system/goo-people-web.service.d'
+    text = ('[provider]\nissuer = https://login.body.example\nclient = goo\n'
+            'secret_file = /etc/goo/people-oidc.secret\nsite = https://registry.example\n')
+    for name, what in ((path, text), ('/etc/goo/people-oidc.secret', 'a word')):
+        stage.put(name, what)
+    done = stage.run('goo-setup', 'people', 'provider')
+    assert done.status == 0, done
+    assert 'https://registry.example/people/v1/oidc/return' in done.out
+    assert 'PrivateNetwork=no' in stage.text(f'{drop_in}/oidc.conf')
+    assert stage.lines('/run/stage/calls')[-2:] == ['daemon-reload',
+                                                    'try-restart goo-people-web.service']
+    stage.put(path, text.replace('issuer', 'isuer'))
+    done = stage.run('goo-setup', 'people', 'provider')
+    assert done.status == 1 and f'{path}: [provider] has isuer' in done.err, done
+    stage.run('rm', path)
+    assert stage.run('goo-setup', 'people', 'provider').status == 0
+    assert stage.run('test', '-e', f'{drop_in}/oidc.conf').status == 1
+
+
 def test_a_host_that_joins_has_what_the_first_one_packed(stage: Stage) -> None:
     owners = {'/var/lib/goo': 'goo', '/var/lib/goo-replica': 'goo-replica',
               '/var/lib/goo-records/first': 'goo-records'}

@@ -272,16 +272,13 @@ def test_a_start_on_a_full_disk_with_torn_ends(folder: Path) -> None:
 # ------------------------------------------------------------------ the way of signing in
 
 @pytest.mark.parametrize('over_etcd', [False, True])
-def test_an_entry_names_the_way_and_the_second_user_but_over_etcd(folder: Path,
-                                                                  over_etcd: bool) -> None:
-    """A host of before could read no such entry, and over etcd there may be one."""
+def test_an_entry_names_the_way_and_the_second_user(folder: Path, over_etcd: bool) -> None:
     with Alone(folder, etcd_words=[] if over_etcd else None) as log:
         assert log.ask('POST', '/v1/requests', REQUEST % 1, GOO_User='anna',
                        GOO_Way='token nightly', GOO_Confirmed='ben').status == 200
         assert log.send(REQUEST % 2).status == 200
         named, plain = [record.entry for record in log.records()][-2:]
-        assert (named.user, named.way, named.confirmed) == (
-            ('anna', '', '') if over_etcd else ('anna', 'token nightly', 'ben'))
+        assert (named.user, named.way, named.confirmed) == ('anna', 'token nightly', 'ben')
         assert (plain.way, plain.confirmed) == ('', '')
         log.restart()
         assert log.send(REQUEST % 3).status == 200

@@ -22,7 +22,7 @@ from cryptography.hazmat.primitives.serialization import PrivateFormat
 from goo_service.common.client import Answer
 from goo_service.common.client import Client
 from goo_service.exchange.signature import Key
-from goo_service.log.closed import closed_in
+from goo_service.log.closed import read_closed
 from goo_service.migrate import documents
 from goo_service.migrate import enquiry
 from goo_service.migrate import plan
@@ -102,7 +102,10 @@ def test_the_result_passes_a_recount(rehearsed: Path, tmp_path: Path) -> None:
     ("UPDATE holder SET name = 'Nobody' WHERE code = 'H00001'", 'Nobody'),
     ('UPDATE device SET capacity_w = 7 WHERE gsrn = (SELECT min(gsrn) FROM device)', 'devices'),
     ('DELETE FROM piece WHERE first = (SELECT max(first) FROM piece)', 'in the tables, and not'),
-    ("UPDATE account SET holder = 'H00001' WHERE number = 1", 'accounts 1')])
+    ("UPDATE account SET holder = 'H00001' WHERE number = 1", 'accounts 1'),
+    ('UPDATE account SET closed = 1 WHERE number = 8', 'accounts 8'),
+    ("UPDATE device SET last_day = '2025-03-31', carry = 5 WHERE gsrn = "
+     '(SELECT min(gsrn) FROM device)', 'declared to 2025-03-31 5')])
 def test_a_difference_in_the_result_is_told(rehearsed: Path, tmp_path: Path, change: str,
                                             told: str) -> None:
     place = copied(rehearsed, tmp_path)
@@ -200,6 +203,9 @@ def test_an_account_has_its_number_in_the_plan(rehearsed: Path) -> None:
     steps = list(sending.steps_in(rehearsed))
     replies = [step.reply['account'] for step in steps if step.body['command'] == 'open_account']
     assert replies == list(range(1, 9))
+    numbers = account_numbers(old_registry.read_tables(rehearsed))
+    _, *rows = (rehearsed / plan.ACCOUNTS).read_text(encoding='utf-8').splitlines()
+    assert {row.split(',')[4]: int(row.split(',')[2]) for row in rows} == numbers
     keys = [step.body['key'] for step in steps]
     assert len(set(keys)) == len(keys) and all(len(key) <= 40 for key in keys)
     parts = [len(step.body['notice']['parts']) for step in steps
@@ -262,6 +268,18 @@ def test_a_protocol_is_verified_with_its_files(rehearsed: Path, tmp_path: Path, 
     (place / protocol.NAME).write_text(text.replace('"differences": 0', '"differences": 1'),
                                        encoding='utf-8')
     assert 'is not signed' in protocol.faults(place, None)[0]
+
+
+def test_a_protocol_that_tells_of_a_difference_does_not_hold(rehearsed: Path, tmp_path: Path,
+                                                             key: Key) -> None:
+    place = copied(rehearsed, tmp_path)
+    registry, read = place / 'rehearsal/registry.db', settings.read(place)
+    with closing(sqlite3.connect(registry)) as database, database:
+        database.execute('DELETE FROM piece WHERE first = (SELECT max(first) FROM piece)')
+    found = compare(place, read, registry)
+    protocol.write(place, read, found, registry, key)
+    assert found.count > 1 and protocol.faults(place, key.public) == [
+        f'{found.count} differences between the tables and the registry']
 
 
 def test_a_protocol_of_another_key_is_refused(rehearsed: Path, tmp_path: Path, key: Key) -> None:
@@ -373,7 +391,7 @@ def test_the_old_registry_is_closed_once_and_open_again(rehearsed: Path, tmp_pat
     words = [*command('goo-migrate', SERVICE), 'close', str(rehearsed), '--closed', str(path)]
     for _ in range(2):
         subprocess.run(words, check=True, capture_output=True)
-    assert closed_in(path) == {'8', '9'}
+    assert read_closed(path) == {'8', '9'}
     assert len(path.read_text().splitlines()) == 2
     for _ in range(2):
         subprocess.run([*words, '--open'], check=True, capture_output=True)
@@ -431,7 +449,7 @@ def test_a_document_is_shown_to_its_holder(folder: Path, tmp_path: Path) -> None
     shown = Attachments(into)
     digest = hashlib.sha256(b'%PDF-1.7 old').hexdigest()
     for viewer, sees in (('ISSUER', True), ('H00001', True), ('H00002', False)):
-        rows = list(shown.listed(Viewer(viewer), {}).rows)
+        rows = list(shown.fetch_page(Viewer(viewer), {}).rows)
         assert [row['sha256'] for row in rows] == ([digest] if sees else [])
     assert shown.content(Viewer('H00001'), 1)[1] == b'%PDF-1.7 old'
     with pytest.raises(NotFound):

@@ -1,8 +1,12 @@
 """A plan of a migration is rehearsed: by the program, in a network of its own, up to its end."""
+import json
 import os
 import socket
+import sqlite3
+import subprocess
 import threading
 from concurrent.futures import ThreadPoolExecutor
+from contextlib import closing
 from pathlib import Path
 
 import old_registry
@@ -11,6 +15,7 @@ from goo_service.migrate import own_network
 from goo_service.migrate import rehearsal
 from goo_service.migrate import sending
 from goo_service.migrate.sending import Progress
+from goo_service.migrate.sums import compare
 from migrating import GOO
 from migrating import planned
 
@@ -50,6 +55,26 @@ def test_an_answer_that_was_not_planned_ends_a_rehearsal(tmp_path: Path) -> None
     read = planned(tmp_path, 2, text=text)
     with pytest.raises(sending.Stopped, match='planned was {"account": 5}'):
         rehearsal.rehearse(tmp_path, read, GOO, print)
+
+
+def test_a_registry_that_has_accounts_is_rehearsed_by_a_copy(tmp_path: Path) -> None:
+    """Four accounts of another holder are there before. They are no difference, and stay."""
+    text = old_registry.SETTINGS.replace('[carry]', 'first_account = 5\n[carry]')
+    read, before = planned(tmp_path, 2, text=text), tmp_path / 'before.db'
+    rehearsal.called([GOO, 'init', '--db', str(before), '--code', '7', '--today',
+                      old_registry.DATE])
+    lines = [{'command': 'open_holder', 'key': 'h', 'holder': 'SUN', 'name': 'Sun'}, *(
+        {'command': 'open_account', 'key': f'a{at}', 'holder': 'SUN'} for at in range(4))]
+    subprocess.run([GOO, 'run', '--db', before], check=True, capture_output=True, text=True,
+                   input=''.join(f'ISSUER {json.dumps(line)}\n' for line in lines))
+    done = rehearsal.rehearse(tmp_path, read, GOO, print, before)
+    assert done.comparison.differences == []
+    with closing(sqlite3.connect(tmp_path / 'rehearsal/registry.db')) as database, database:
+        assert database.execute("SELECT count(*) FROM account WHERE holder = 'SUN'"
+                                ).fetchone() == (4,)
+        database.execute("UPDATE account SET holder = 'H00001' WHERE number = 5")
+    found = compare(tmp_path, read, tmp_path / 'rehearsal/registry.db')
+    assert [text for text in found.differences if text.startswith('accounts 5')]
 
 
 @pytest.mark.parametrize(('text', 'told'), [

@@ -14,7 +14,7 @@ from goo_service.records.body import read_body
 from goo_service.records.code_lists import lists_of
 from goo_service.records.code_lists import read_lists
 from goo_service.records.paper import Writer
-from goo_service.records.paper import joined
+from goo_service.records.paper import join_lots
 from goo_service.records.paper_words import GERMAN
 from goo_service.rules.commands import ISSUER
 from hypothesis import given
@@ -235,7 +235,7 @@ def test_joined_ranges_are_the_same_certificates(parts: list[tuple[int, int, int
                                   'carrier', 'capacity_w', 'commissioned', 'support', 'issued_on',
                                   'origin')}})
         at += count
-    found = joined([{'lots': lots}])
+    found = join_lots([{'lots': lots}])
 
     def numbers(device: str, ranges: list[tuple[int, int]]) -> set[tuple[str, int]]:
         return {(device, n) for first, last in ranges for n in range(first, last + 1)}
@@ -321,6 +321,6 @@ def test_letters_that_deceive_are_those_of_the_page() -> None:
     codes = [int(code, 16) for code in re.findall(r"'\\u([0-9a-f]{4})'", names[1])]
     assert len(codes) > 20
     for code in codes:
-        assert letters.shown(f'a{chr(code)}b') == f'aU+{code:04X}b'
+        assert letters.render(f'a{chr(code)}b') == f'aU+{code:04X}b'
     for plain in ('äöüß', 'Żółw Łódź', 'Ενέργεια', '’–“„', 'a b', '東京', 'е́'):
-        assert letters.shown(plain) == plain and letters.special(plain) == []
+        assert letters.render(plain) == plain and letters.special(plain) == []

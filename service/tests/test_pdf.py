@@ -98,7 +98,7 @@ def test_the_text_of_the_pdf_is_what_stands_on_the_document(made: Made, numbers:
     of = paper_of(made, numbers, lang)
     pages = pages_of(pdf_of(made, numbers, lang), tmp_path)
     said = ''.join(pages).translate(WITHOUT_SPACE)
-    texts = [letters.shown(text).translate(WITHOUT_SPACE) for text in texts_of(of)]
+    texts = [letters.render(text).translate(WITHOUT_SPACE) for text in texts_of(of)]
     assert [text for text in texts if text not in said] == []
     feet = [f'{of["each_page"]}{of["page"].format(at + 1, len(pages))}'
             for at in range(len(pages))]
@@ -166,16 +166,16 @@ def test_no_text_is_markup_or_style(text: str) -> None:
 
 def test_a_pdf_fetches_nothing(made: Made, monkeypatch: pytest.MonkeyPatch) -> None:
     asked: list[str] = []
-    real = render.refused
+    real = render.refuse
 
     def told(url: str, *words: Any, **more: Any) -> None:
         asked.append(url)
         real(url, *words, **more)
 
-    monkeypatch.setattr(render, 'refused', told)
+    monkeypatch.setattr(render, 'refuse', told)
     image = '<img src="file:///etc/passwd"><link rel="stylesheet" href="http://192.0.2.1/a.css">'
     monkeypatch.setattr(render, 'page', lambda of: f'<html><body>{image}</body></html>')
-    assert render.rendered({}).startswith(b'%PDF-')
+    assert render.render({}).startswith(b'%PDF-')
     assert len(asked) == 2
     assert 'src=' not in pdf_page.page(paper_of(made, '1')) and (
         'href=' not in pdf_page.page(paper_of(made, '1')))
@@ -197,7 +197,7 @@ def test_a_renderer_that_fails_is_told(made: Made, monkeypatch: pytest.MonkeyPat
 
 
 def test_the_renderer_has_no_more_memory_than_it_may() -> None:
-    text = ('from goo_service.records import render; render.bound(); '
+    text = ('from goo_service.records import render; render.set_limits(); '
             'import resource as r; print(r.getrlimit(r.RLIMIT_AS)[1], '
             'r.getrlimit(r.RLIMIT_CPU)[1], r.getrlimit(r.RLIMIT_FSIZE)[1])')
     done = subprocess.run([pdf.WORDS[0], '-c', text], capture_output=True, text=True, check=True,

@@ -230,4 +230,4 @@ def test_an_answer_without_an_account_is_not_shown() -> None:
             ('/v1/cancellations/1', b'CANCELLATION 1\n', 403),
             ('/v1/cancellations/1', b'CANCELLATION 1\nregistry 07\naccount 1\nx\n', 403),
             ('/v1/certificates/07000000000001', b'{"number":"1"}', 404)):
-        assert narrowed.shown(target, Answer(200, 'x', body), frozenset({1})).status == wanted
+        assert narrowed.narrow(target, Answer(200, 'x', body), frozenset({1})).status == wanted

@@ -10,6 +10,7 @@ from gate_stage import cancel
 from gate_stage import open_holder
 from gate_stage import transfer
 from goo_service.people import confirming
+from goo_service.people import sessions
 from goo_service.people import store
 from goo_service.people import waiting
 from goo_service.people.acts import Doer
@@ -206,6 +207,20 @@ def test_an_asker_who_lost_the_right_has_nothing_sent(stage: GateStage) -> None:
         with pytest.raises(Conflict, match=why):
             confirm(stage, 'ben', number)
         assert state(stage, number) == 'lapsed'
+
+
+def test_a_session_that_ended_takes_nothing_back(stage: GateStage) -> None:
+    """The user asked, and not his session: only where he has ended it is not sent."""
+    with stage.change() as db:
+        number, _ = sessions.begin(db, stage.users['anna'], '192.0.2.7', 'Browser', 'totp')
+    kept, gone = (ask(stage, 'anna', transfer(key, 11), hold=f's{number}') for key in 'ab')
+    with stage.change() as db:
+        assert sessions.end_all(db, stage.users['anna']) == 1
+    assert confirm(stage, 'ben', kept).state == 'waiting' and state(stage, kept) == 'sending'
+    stage.end_user('anna')
+    with pytest.raises(Conflict, match='anna has ended'):
+        confirm(stage, 'ben', gone)
+    assert state(stage, gone) == 'lapsed'
 
 
 def test_a_confirmer_who_lost_the_right_confirms_nothing(stage: GateStage) -> None:

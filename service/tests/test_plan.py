@@ -66,7 +66,7 @@ def most(runs: list[Run], wants: list[Want], taken: set[int]) -> int:
 def test_each_row_gets_its_quantity_of_what_fits_and_nothing_twice(
         table: tuple[list[Run], list[Want]]) -> None:
     runs, wants = table
-    found = plan.planned(runs, wants)
+    found = plan.make_plan(runs, wants)
     at_fault = {fault.row for fault in found.faults}
     given_out: list[int] = []
     for want in wants:
@@ -96,7 +96,7 @@ def taken_by_name(wants: list[Want]) -> set[int]:
 def test_a_row_is_short_only_where_no_choice_serves_all(
         table: tuple[list[Run], list[Want]]) -> None:
     runs, wants = table
-    found = plan.planned(runs, wants)
+    found = plan.make_plan(runs, wants)
     named = taken_by_name(wants)
     by_quantity = [want for want in wants if not want.ranges]
     got = sum(plan.size(found.ranges.get(want.row, [])) for want in by_quantity)
@@ -113,7 +113,7 @@ def test_a_row_is_short_only_where_no_choice_serves_all(
 def test_the_oldest_deadline_goes_first(table: tuple[list[Run], list[Want]]) -> None:
     """What is left over and fits a row has no older deadline than what the row got."""
     runs, wants = table
-    found = plan.planned(runs, wants)
+    found = plan.make_plan(runs, wants)
     day = {number: run.deadline for run in runs for number in range(run.first, run.last + 1)}
     used = {number for spans in found.ranges.values() for number in numbers(spans)}
     for want in wants:
@@ -124,7 +124,7 @@ def test_the_oldest_deadline_goes_first(table: tuple[list[Run], list[Want]]) -> 
 
 
 def faults_of(runs: list[Run], wants: list[Want]) -> list[tuple[int, str, str]]:
-    return [(of.row, of.field, of.kind) for of in plan.planned(runs, wants).faults]
+    return [(of.row, of.field, of.kind) for of in plan.make_plan(runs, wants).faults]
 
 
 def test_ranges_are_held_against_what_is_there_and_each_other() -> None:
@@ -134,14 +134,14 @@ def test_ranges_are_held_against_what_is_there_and_each_other() -> None:
     assert faults_of(runs, [Want(1, ranges=((8, 13),), tech='T01')]) == [(1, 'tech', 'unfit')]
     assert faults_of(runs, [Want(1, 5, ranges=((8, 13),))]) == [(1, 'quantity', 'differs')]
     twice = [Want(1, ranges=((1, 5),)), Want(2, ranges=((5, 6),)), Want(3, ranges=((1, 1),))]
-    assert plan.planned(runs, twice).faults == [Fault(2, 'ranges', 'twice', other=1),
-                                                Fault(3, 'ranges', 'twice', other=1)]
+    assert plan.make_plan(runs, twice).faults == [Fault(2, 'ranges', 'twice', other=1),
+                                                  Fault(3, 'ranges', 'twice', other=1)]
     assert faults_of(runs, [Want(1, ranges=((1, 3), (2, 4)))]) == [(1, 'ranges', 'twice')]
 
 
 def test_what_is_short_is_told_by_its_field() -> None:
     runs = [Run(1, 10, DAYS[0], tech='T01', country='DE')]
-    assert plan.planned(runs, [Want(1, 20)]).faults == [Fault(1, 'quantity', 'short', 10, 20)]
+    assert plan.make_plan(runs, [Want(1, 20)]).faults == [Fault(1, 'quantity', 'short', 10, 20)]
     assert faults_of(runs, [Want(1, 1, country='FR', tech='T01')]) == [(1, 'country', 'none')]
     assert faults_of(runs, [Want(1, 6), Want(2, 6, tech='T01')]) == [(2, 'quantity', 'short')]
 
@@ -151,7 +151,7 @@ def test_a_row_gives_up_what_another_one_needs() -> None:
     runs = [Run(1, 10, DAYS[0], tech='T01', country='DE'),
             Run(11, 20, DAYS[1], tech='T01', country='AT'),
             Run(21, 30, DAYS[2], tech='T02', country='DE')]
-    found = plan.planned(runs, [Want(1, 10, tech='T01'), Want(2, 20, country='DE')])
+    found = plan.make_plan(runs, [Want(1, 10, tech='T01'), Want(2, 20, country='DE')])
     assert found.faults == []
     assert found.ranges == {1: [(11, 20)], 2: [(1, 10), (21, 30)]}
 
@@ -171,7 +171,7 @@ def test_hundreds_of_rows_over_thousands_of_runs_are_planned_soon(count: int) ->
     300 rows of 351 are served, where each row takes any or what three quarters are."""
     wants = [Want(row, count, tech=('', 'T0*')[row % 2]) for row in range(1, 301)]
     begun = time.monotonic()
-    found = plan.planned(many(), wants)
+    found = plan.make_plan(many(), wants)
     assert time.monotonic() - begun < 60
     assert (not found.faults) == (count < 1000)
     assert sum(map(plan.size, found.ranges.values())) == min(300 * count, 5015 * 21)
@@ -182,5 +182,5 @@ def test_many_rows_that_stand_in_each_others_way_are_planned_soon() -> None:
                   country=('', 'DE', 'AT', 'FR')[row % 4],
                   month=f'2024-{row % 12 + 1:02}' if row % 2 else '') for row in range(1, 301)]
     begun = time.monotonic()
-    assert plan.planned(many(), wants).faults
+    assert plan.make_plan(many(), wants).faults
     assert time.monotonic() - begun < 60

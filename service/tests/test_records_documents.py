@@ -5,7 +5,7 @@ from pathlib import Path
 from typing import Any
 
 import pytest
-from goo_service.records.certificates import chosen_of
+from goo_service.records.certificates import choose_runs
 from goo_service.records.documents import check_code
 from goo_service.records.documents import is_code
 from goo_service.records.files import csv_of
@@ -138,7 +138,7 @@ def test_a_choice_adds_up_and_is_within_its_runs(counts: list[int], data: strate
     if fitting:
         runs.sort(key=lambda run: int(run['count']), reverse=True)
     wanted = data.draw(strategies.integers(1, sum(counts)))
-    chosen = chosen_of(runs, wanted, fitting)
+    chosen = choose_runs(runs, wanted, fitting)
     numbers = [number for run in chosen for number in range(run['first'], run['last'] + 1)]
     there = {number for run in runs for number in range(run['first'], run['last'] + 1)}
     assert len(numbers) == len(set(numbers)) == wanted

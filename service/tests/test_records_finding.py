@@ -13,7 +13,7 @@ import openpyxl  # type: ignore[import]
 import pytest
 from goo_service.log import entries
 from goo_service.records import lists
-from goo_service.records.pages import paged_by
+from goo_service.records.pages import read_page
 from goo_service.records.questions import Conditions
 from goo_service.records.questions import FILES
 from goo_service.rules.commands import ISSUER
@@ -233,7 +233,7 @@ def plan_of(made: Made, name: str, **given: str) -> str:
     conditions = Conditions()
     if (text := given.pop('q', '')) and of.found:
         conditions.add(*of.found(text))
-    list(paged_by(of, database, conditions, given).rows)
+    list(read_page(of, database, conditions, given).rows)
     database.set_trace_callback(None)
     statement, = (text for text in asked if 'place_key' in text)
     steps = database.execute(f'EXPLAIN QUERY PLAN {statement}')

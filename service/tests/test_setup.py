@@ -66,7 +66,7 @@ def names_in(found: by_hand.Found, root: Path) -> set[str]:
 
 
 def test_what_was_installed_by_hand_is_found_and_nothing_else(by_hand_host: Path) -> None:
-    found = by_hand.found_below(by_hand_host, OF_PACKAGE)
+    found = by_hand.find_below(by_hand_host, OF_PACKAGE)
     assert names_in(found, by_hand_host) == set(HAND)
 
 
@@ -74,22 +74,22 @@ def test_links_are_the_packages_or_mask_a_unit(by_hand_host: Path) -> None:
     for name in HAND:
         (by_hand_host / name).unlink()
         (by_hand_host / name).symlink_to('/dev/null')
-    assert not by_hand.found_below(by_hand_host, OF_PACKAGE).files
+    assert not by_hand.find_below(by_hand_host, OF_PACKAGE).files
 
 
 def test_programs_stay_where_dpkg_knows_no_package(by_hand_host: Path) -> None:
-    found = names_in(by_hand.found_below(by_hand_host, frozenset()), by_hand_host)
+    found = names_in(by_hand.find_below(by_hand_host, frozenset()), by_hand_host)
     assert not any(name.startswith('usr/') for name in found) and len(found) == len(HAND) - 2
 
 
 def test_a_copy_under_way_is_stopped_before_the_registry(by_hand_host: Path) -> None:
-    first, rest = by_hand.found_below(by_hand_host, OF_PACKAGE).stops()
+    first, rest = by_hand.find_below(by_hand_host, OF_PACKAGE).stops()
     assert set(first) == {'goo-backup.timer', 'goo-backup.service'}
     assert set(rest) == {'goo.service', 'goo-door.socket', 'goo-port.service'}, 'no form of a unit'
 
 
 def test_nothing_by_hand_stops_nothing(tmp_path: Path) -> None:
-    found = by_hand.found_below(tmp_path, OF_PACKAGE)
+    found = by_hand.find_below(tmp_path, OF_PACKAGE)
     assert found.stops() == [] and found.units() == []
 
 
@@ -120,7 +120,7 @@ def test_what_is_refused_is_refused_before_aside(tmp_path: Path,
     def refuse(_: by_hand.Found) -> None:
         raise Refused('by certificates')
 
-    monkeypatch.setattr(by_hand, 'found_below', lambda *_: found)
+    monkeypatch.setattr(by_hand, 'find_below', lambda *_: found)
     monkeypatch.setattr(by_hand, 'verify', refuse)
     monkeypatch.setattr(by_hand, 'ASIDE', tmp_path / 'aside')
     monkeypatch.setattr(by_hand, 'run', lambda *_: pytest.fail('a command is run'))

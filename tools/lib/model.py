@@ -17,7 +17,7 @@ import readings
 from client import response
 from goo_service.copies import expected
 from goo_service.rules.certificates import PLACES
-from goo_service.rules.certificates import joined
+from goo_service.rules.certificates import join_runs
 from goo_service.rules.commands import ISSUER
 from goo_service.rules.lots import LOT
 from goo_service.rules.refusals import Again
@@ -101,7 +101,7 @@ class Model:
     def runs(self):
         """The longest runs of one lot and one place, made once after each change."""
         if self.shown is None:
-            self.shown = self.registry.certificates.joined()
+            self.shown = self.registry.certificates.longest_runs()
         return self.shown
 
     def statement(self, account):
@@ -115,7 +115,7 @@ class Model:
         if number not in self.registry.cancellations:
             return None
         _, first, last, *_ = self.registry.cancellations[number]
-        return expected.document_text(self.registry, number, joined(run[:3] for run in self.registry.certificates.within(first, last))).encode()
+        return expected.document_text(self.registry, number, join_runs(run[:3] for run in self.registry.certificates.within(first, last))).encode()
 
     def audit(self):
         return expected.audit_text(self.registry).encode()

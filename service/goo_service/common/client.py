@@ -80,7 +80,7 @@ class TimedSocket(socket.socket):
 
     until = float('inf')
 
-    def left(self) -> float:
+    def seconds_left(self) -> float:
         """The seconds that are left. TimeoutError where there are none."""
         left = self.until - time.monotonic()
         if left <= 0:
@@ -89,12 +89,12 @@ class TimedSocket(socket.socket):
 
     def recv_into(self, *words: object, **options: object) -> int:
         """As a file over the socket calls it for each part."""
-        self.settimeout(self.left())
+        self.settimeout(self.seconds_left())
         return super().recv_into(*words, **options)     # type: ignore[arg-type]
 
     def sendall(self, *words: object, **options: object) -> None:
         """Python bounds this call as a whole."""
-        self.settimeout(self.left())
+        self.settimeout(self.seconds_left())
         super().sendall(*words, **options)              # type: ignore[arg-type]
 
 
@@ -164,7 +164,7 @@ class Client:
             return Answer(response.status, fields_of(response), response.read(size))
 
     @contextlib.contextmanager
-    def kept(self, route: str) -> Iterator[Kept]:
+    def keep_open(self, route: str) -> Iterator[Kept]:
         """The answer, whose connection stays open for as long as the block lasts."""
         with self.connection() as connection:
             with faults_of(self.address):

@@ -33,7 +33,7 @@ class Owner:
     group: int
 
     @staticmethod
-    def named(user: str, group: str) -> 'Owner':
+    def of_names(user: str, group: str) -> 'Owner':
         """LookupError where this host has no such user, or no such group."""
         return Owner(pwd.getpwnam(user).pw_uid, grp.getgrnam(group).gr_gid)
 
@@ -86,7 +86,7 @@ def as_owner(folder: Path, work: Callable[[], Iterator[bytes]]) -> Iterator[byte
         os.waitpid(child, 0)
 
 
-def done_as_owner(folder: Path, work: Callable[[], None]) -> None:
+def work_as_owner(folder: Path, work: Callable[[], None]) -> None:
     """Work that gives nothing back."""
     def silent() -> Iterator[bytes]:
         work()

@@ -19,12 +19,12 @@ def records_in(table: bytes) -> Iterator[list[bytes]]:
     """The records of a table, its header first. Blank lines are passed over."""
     table = table.removeprefix(MARK)
     if b'"' in table:
-        yield from quoted_records_in(table)
+        yield from records_in_quotes(table)
     else:
         yield from (line.split(b',') for line in table.splitlines() if line)
 
 
-def quoted_records_in(table: bytes) -> Iterator[list[bytes]]:
+def records_in_quotes(table: bytes) -> Iterator[list[bytes]]:
     """The same where fields may be in quotes."""
     at = past_line_ends(table, 0)
     while at < len(table):

@@ -15,7 +15,7 @@ from pathlib import Path
 from typing import BinaryIO
 
 from goo_service.common.files import write_whole
-from goo_service.common.owner import done_as_owner
+from goo_service.common.owner import work_as_owner
 from goo_service.common.owner import remove
 from goo_service.copies import contents
 from goo_service.copies.contents import open_regular
@@ -44,7 +44,7 @@ def place_beginning(copy: Path, n: int, configuration: Path) -> str:
     with ExitStack() as stack:
         files: dict[str, BinaryIO] = {
             name: stack.enter_context(open_regular(copy / name)) for name in FILES}
-        done_as_owner(BOOK, lambda: write_first(files))
+        work_as_owner(BOOK, lambda: write_first(files))
     earlier = conf.read_text(encoding='utf-8') if conf.exists() else ''
     begin = f'--copy {BOOK / FIRST} --after {n}'
     write_whole(conf, settings.with_setting(earlier, settings.BEGIN, begin), 0o644)
@@ -77,10 +77,10 @@ def put_beginning_back(archive: Path) -> bool:
     if os.path.lexists(BOOK / FIRST) or not archive.is_file() or not has_folder():
         return False
     part = BOOK / f'{FIRST}.part'
-    done_as_owner(BOOK, lambda: remove(part))
+    work_as_owner(BOOK, lambda: remove(part))
     contents.unpack(archive, BOOK, f'--transform=s,^{FIRST},{part.name},')
     contents.sync(BOOK)
-    done_as_owner(BOOK, lambda: os.rename(part, BOOK / FIRST))
+    work_as_owner(BOOK, lambda: os.rename(part, BOOK / FIRST))
     return True
 
 

@@ -27,7 +27,7 @@ from typing import BinaryIO
 
 from goo_service.common.owner import NotDone
 from goo_service.common.owner import as_owner
-from goo_service.common.owner import done_as_owner
+from goo_service.common.owner import work_as_owner
 from goo_service.common.owner import owner_of
 
 LIST = 'SHA256SUMS'
@@ -99,7 +99,7 @@ def copy_database(database: Path, folder: Path) -> None:
 
 def copy_one(file: Path, folder: Path) -> None:
     with open(folder / file.name, 'xb') as new:
-        done_as_owner(file.parent, lambda: copy_into(file, new.fileno()))
+        work_as_owner(file.parent, lambda: copy_into(file, new.fileno()))
 
 
 def tar(*words: object, folder: Path, stdin: BinaryIO | None = None,

@@ -63,7 +63,7 @@ def rows_of(registry: Registry) -> dict[str, Rows]:
         'correction': registry.corrections,
         'lot': [(*lot, lot.expires_on) for lot in registry.lots.values()],
         'piece': [(first, last, *lot.key, *place)
-                  for first, last, lot, place in registry.certificates.joined()],
+                  for first, last, lot, place in registry.certificates.longest_runs()],
         'peer': [(peer,) for peer in registry.peers],
         'cancellation': [(number, *act) for number, act in registry.cancellations.items()],
         'withdrawal': [(number, *act) for number, act in registry.withdrawals.items()],
@@ -141,7 +141,7 @@ def texts_of(registry: Registry) -> Iterator[tuple[str, str]]:
     """Each text of the registry's, by the name of its file."""
     by_account: dict[int, list[Run]] = collections.defaultdict(list)
     by_act: dict[int, list[Run]] = collections.defaultdict(list)
-    for run in registry.certificates.joined():
+    for run in registry.certificates.longest_runs():
         by_account[run[3].account].append(run)
         if run[3].kind == CANCELLED:
             by_act[run[3].act].append(run)

@@ -13,7 +13,7 @@ import time
 
 from goo_service.common.files import write_whole
 from goo_service.common.owner import as_owner
-from goo_service.common.owner import done_as_owner
+from goo_service.common.owner import work_as_owner
 from goo_service.common.owner import remove
 from goo_service.common.programs import words_of
 from goo_service.copies import contents
@@ -72,7 +72,7 @@ def stage(folder: pathlib.Path) -> pathlib.Path:
     with contextlib.ExitStack() as opened:
         files = {name: opened.enter_context(contents.open_regular(folder / name)).fileno()
                  for name in FILES if os.path.lexists(folder / name)}
-        done_as_owner(host.REGISTRY, lambda: write_staged(staged, files))
+        work_as_owner(host.REGISTRY, lambda: write_staged(staged, files))
     return staged / FILES[0]
 
 
@@ -119,7 +119,7 @@ def recount(staged: pathlib.Path, although_broken: bool) -> str:
     return done.stdout.splitlines()[-1] if done.stdout else 'not recounted'
 
 
-def verified_copy(folder: pathlib.Path, although_broken: bool) -> pathlib.Path:
+def verify_copy(folder: pathlib.Path, although_broken: bool) -> pathlib.Path:
     """The staged database of a copy, audited and recounted."""
     staged = stage(folder)
     verify_audit(staged, folder)

@@ -8,7 +8,7 @@ log runs. Cut off, the same command reads the archive there.
 import pathlib
 
 from goo_service.common.owner import as_owner
-from goo_service.common.owner import done_as_owner
+from goo_service.common.owner import work_as_owner
 from goo_service.common.owner import remove
 from goo_service.copies import contents
 from goo_service.copies import host
@@ -115,4 +115,4 @@ def begin(placed: pathlib.Path | None) -> None:
         show(run_log(words).strip())
     host.systemctl('start', host.REGISTRY_UNIT, host.DOOR, host.REPLICA)
     show(f'the registry runs with a new log, {host.wait_for_log()}')
-    done_as_owner(host.STATE, lambda: (pathlib.Path(kept.decode()) / 'done').touch())
+    work_as_owner(host.STATE, lambda: (pathlib.Path(kept.decode()) / 'done').touch())

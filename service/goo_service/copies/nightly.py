@@ -20,7 +20,7 @@ from goo_service.copies.places import write_place
 from goo_service.copies.replay import bring_up
 from goo_service.copies.rows import differences
 from goo_service.log.entries import Broken
-from goo_service.log.hold import held
+from goo_service.log.hold import hold_replica
 from goo_service.people import store
 
 EXCHANGE = Path(os.environ.get('GOO_EXCHANGE') or '/var/lib/goo-exchange')
@@ -83,7 +83,7 @@ def copy_held(door: str, db: Path, part: Path) -> Place:
     why = ''
     for _ in range(HOLDS):
         try:
-            with held(door) as hold:
+            with hold_replica(door) as hold:
                 began = time.monotonic()
                 contents.copy_database(db, part)
                 if hold.lasts():

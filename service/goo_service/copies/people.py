@@ -12,7 +12,7 @@ from typing import BinaryIO
 
 from goo_service.common.files import sync_folder
 from goo_service.common.owner import as_owner
-from goo_service.common.owner import done_as_owner
+from goo_service.common.owner import work_as_owner
 from goo_service.copies import contents
 from goo_service.people import store
 
@@ -76,7 +76,7 @@ def put_back_where_none_is(folder: Path, path: Path = store.FILE) -> str:
         path.parent.mkdir(mode=0o700)
         shutil.chown(path.parent, USER, USER)
     with contents.open_regular(copied) as source:
-        done_as_owner(path.parent, lambda: put_alone(source, path))
+        work_as_owner(path.parent, lambda: put_alone(source, path))
     return f'{path} is that of the copy; its sessions have ended'
 
 

@@ -37,7 +37,7 @@ from goo_service.copies.kept import Beginning
 from goo_service.copies.kept import Copy
 from goo_service.copies.kept import Unreadable
 from goo_service.copies.kept import same_at_first
-from goo_service.rules.certificates import joined
+from goo_service.rules.certificates import join_runs
 from goo_service.rules.commands import compact
 from goo_service.rules.refusals import Wrong
 from goo_service.rules.registry import Registry
@@ -194,7 +194,7 @@ class CarriedOut:
         return True
 
 
-def carried_out(copy: Copy, report: Report, begun: str) -> Registry:
+def replay(copy: Copy, report: Report, begun: str) -> Registry:
     """The registry that the kept requests leave, each carried out once and in their order."""
     made = CarriedOut(Registry(copy.code, begun, copy.next_serial_at_first()))
     for row in copy.requests():
@@ -209,10 +209,10 @@ def carried_out(copy: Copy, report: Report, begun: str) -> Registry:
 
 def by_requests(copy: Copy, report: Report, begun: str, into: Path | None) -> str:
     """Compares every table with what the requests leave; the text of their audit."""
-    registry = carried_out(copy, report, begun)
+    registry = replay(copy, report, begun)
     for name, rows in expected.rows_of(registry).items():
         found = copy.query(expected.ROWS[name]).fetchall()
-        faults = expected.table_faults(name, rows, joined(found) if name == 'piece' else found)
+        faults = expected.table_faults(name, rows, join_runs(found) if name == 'piece' else found)
         report.check(f'table {name}, {some(len(rows), "row")}', faults)
     if into:
         for name, text in expected.texts_of(registry):

@@ -122,8 +122,8 @@ class Replay:
             entry = wanted.record.entry
             came = of_row(answer) if entry.route == TABLES else comparable(answer)
             if wanted.outcome != came:
-                raise Broken(f'entry {entry.n}: archived as {shown(wanted.outcome)}, '
-                             f'and the program comes to {shown(answer)}')
+                raise Broken(f'entry {entry.n}: archived as {render(wanted.outcome)}, '
+                             f'and the program comes to {render(answer)}')
 
 
 def one_line(body: bytes) -> bytes:
@@ -131,7 +131,7 @@ def one_line(body: bytes) -> bytes:
     return re.sub(rb'[\r\n]', b' ', body)
 
 
-def shown(text: bytes) -> str:
+def render(text: bytes) -> str:
     return text[:200].decode(errors='replace')
 
 

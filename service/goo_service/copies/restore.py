@@ -123,7 +123,7 @@ def staged_copy(plan: Plan, ran: list[str]) -> tuple[pathlib.Path, pathlib.Path 
     host.close_door()
     show('the front door is closed')
     host.stop_all(ran)
-    staged, placed = going_back.verified_copy(plan.copy, plan.although_broken), None
+    staged, placed = going_back.verify_copy(plan.copy, plan.although_broken), None
     if plan.before:
         undo.bring_to(staged, plan.copy, plan.before - 1)
     elif plan.new_log:

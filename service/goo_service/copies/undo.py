@@ -3,7 +3,7 @@ import json
 import pathlib
 
 from goo_service.common.owner import as_owner
-from goo_service.common.owner import done_as_owner
+from goo_service.common.owner import work_as_owner
 from goo_service.copies import contents
 from goo_service.copies import host
 from goo_service.copies.host import run_log
@@ -33,7 +33,7 @@ def verify(folder: pathlib.Path, n: int) -> None:
                 raise contents.Unfit(f'{undone[1]}: entry {undone[0]} is being undone: '
                                      f'restore COPY --before {undone[0]} ends that')
         else:
-            done_as_owner(host.STATE, lambda: read_point(n))
+            work_as_owner(host.STATE, lambda: read_point(n))
     except entries.Broken as fault:
         raise contents.Unfit(f'--before {n}: {fault}') from fault
 

@@ -29,11 +29,11 @@ def verify(goo: Program, archive: Path, key: bytes | None, copy: Path | None, fo
     for record in records_of(archive, begin - 1, key):
         if last is None:
             verify_beginning(archive, record, begin)
-            yield from met(places, begin - 1, record.entry.prev, None)
+            yield from verify_copies(places, begin - 1, record.entry.prev, None)
         last = record
         if record.outcome.status not in STATUSES:
             raise Broken(f'entry {record.entry.n}: {record.outcome.status} is no outcome')
-        yield from met(places, record.entry.n, record.hash, record.outcome.chain)
+        yield from verify_copies(places, record.entry.n, record.hash, record.outcome.chain)
     if last is None:
         raise Broken(f'{archive}: it has no entry {begin}')
     yield from unmet(places, begin, last)
@@ -51,7 +51,8 @@ def verify_beginning(archive: Path, first: Record, begin: int) -> None:
                      f'Where this is as it should be: --from {n}')
 
 
-def met(places: dict[str, Place], n: int, hashed: str, chain: str | None) -> Iterator[str]:
+def verify_copies(places: dict[str, Place], n: int, hashed: str,
+                  chain: str | None) -> Iterator[str]:
     """The copies of entry n, which have to have its hash and, where it is known, its chain.
 
     They are removed from `places`.

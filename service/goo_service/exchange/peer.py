@@ -99,7 +99,7 @@ class Peer:
             self.connection.close()
         self.connection = None
 
-    def left(self) -> float:
+    def seconds_left(self) -> float:
         """The seconds that are left."""
         left = self.until - time.monotonic()
         if left <= 0:
@@ -110,7 +110,7 @@ class Peer:
         """A connection that is open."""
         if self.connection is None or self.connection.sock is None:
             self.connection = http.client.HTTPSConnection(
-                self.host, self.port, context=self.tls, timeout=min(PATIENCE, self.left()))
+                self.host, self.port, context=self.tls, timeout=min(PATIENCE, self.seconds_left()))
             self.connection.connect()
             if isinstance(self.connection.sock, Bounded):
                 self.connection.sock.deadline = self.until
@@ -126,24 +126,24 @@ class Peer:
     def response(self, name: str) -> Response:
         """An answer. No request of the exchange does harm when it comes twice, so it is sent once
         more where no answer came."""
-        self.left()
+        self.seconds_left()
         try:
             return self.get(name)
         except (OSError, http.client.HTTPException):
             self.close()
-        self.left()
+        self.seconds_left()
         try:
             return self.get(name)
         except (OSError, http.client.HTTPException) as fault:
             self.close()
-            self.left()
+            self.seconds_left()
             raise Again(f'no answer: {type(fault).__name__} {fault}'.strip()) from fault
 
     def fetch(self, name: str) -> str | None:
         """The text at a name; None where there is nothing."""
         response = self.response(name)
         while response.status == 429:       # more than its front door takes of us in a second
-            time.sleep(min(1, self.left()))
+            time.sleep(min(1, self.seconds_left()))
             response = self.response(name)
         if response.status == 404:
             return None

@@ -11,7 +11,7 @@ PATH = '/etc/goo/closed-registries'
 MOST_BYTES = 4096
 
 
-def closed_in(path: Path) -> frozenset[str]:
+def read_closed(path: Path) -> frozenset[str]:
     """The codes, as digits without a leading zero. Root writes the file; the log reads it."""
     try:
         with path.open('rb') as file:
@@ -29,14 +29,14 @@ def code_of(line: str) -> str:
 
 def close(path: Path, code: int, about: str) -> None:
     """Closes a registry, once."""
-    if str(code) not in closed_in(path):
+    if str(code) not in read_closed(path):
         before = path.read_text(encoding='utf-8') if path.exists() else ''
         write_whole(path, f'{before}{code:02} {about}\n', mode=0o644)
 
 
 def reopen(path: Path, code: int) -> None:
     """Takes a registry's lines away."""
-    if str(code) in closed_in(path):
+    if str(code) in read_closed(path):
         lines = path.read_text(encoding='utf-8').splitlines(keepends=True)
         kept = ''.join(line for line in lines if code_of(line) != str(code))
         write_whole(path, kept, mode=0o644)

@@ -71,7 +71,7 @@ class Decider(Link):
             refused = self.outcome_of(entry, lambda: self.rehearse(entry))
             if refused is not REHEARSED:
                 return refused or ASIDE
-        kept = self.written_at_last(lambda: self.refusals.begin(underway.mark_of(entry)))
+        kept = self.write_at_last(lambda: self.refusals.begin(underway.mark_of(entry)))
         return underway.apply_lines(entry, kept, self.keep_refusal,
                                     lambda body, goes_on: self.send_line(entry, body, goes_on))
 
@@ -92,9 +92,9 @@ class Decider(Link):
             'POST', '/v1/requests', entry.caller, body, meanwhile))
 
     def keep_refusal(self, number: int, body: bytes) -> None:
-        self.written_at_last(lambda: self.refusals.keep(number, body))
+        self.write_at_last(lambda: self.refusals.keep(number, body))
 
-    def written_at_last(self, write: Callable[[], Written]) -> Written:
+    def write_at_last(self, write: Callable[[], Written]) -> Written:
         """What is written once the disk has room."""
         while True:
             try:

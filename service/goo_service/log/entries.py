@@ -111,7 +111,7 @@ def read_key(path: str | Path) -> bytes:
 TEXT_OF = json.JSONEncoder(ensure_ascii=False, separators=(',', ':')).encode
 
 
-def quoted(text: object) -> str:
+def quote(text: object) -> str:
     """A text as TEXT_OF writes it, in less time."""
     return cast(str, json.encoder.encode_basestring(text))      # type: ignore[attr-defined]
 
@@ -123,7 +123,7 @@ def compact(value: object) -> bytes:
 def body_member(body: bytes) -> str:
     """The body as text where it is UTF-8, else in base64; so is a long one that is shorter so."""
     try:
-        text = quoted(body.decode())
+        text = quote(body.decode())
         if len(body) < SHORT or len(text.encode()) <= 4 * len(body) // 3:
             return f'"body":{text}'
     except UnicodeDecodeError:
@@ -157,15 +157,15 @@ def entry_line(entry: Entry, key: bytes, member: bytes = b'') -> bytes:
 
 def head_of(entry: Entry) -> bytes:
     """The members before the body."""
-    leading, rest = map(quoted, entry[1:FIRST]), map(quoted, entry[FIRST:BODY])
+    leading, rest = map(quote, entry[1:FIRST]), map(quote, entry[FIRST:BODY])
     return (FORM % (entry.n, *leading, optional_members(entry), *rest)).encode()
 
 
 def optional_members(entry: Entry) -> str:
     """Those members that a line may lack, as far as they say something."""
     way, confirmed = entry.way, entry.confirmed
-    return ((f',"way":{quoted(way)}' if way else '')
-            + (f',"confirmed":{quoted(confirmed)}' if confirmed else ''))
+    return ((f',"way":{quote(way)}' if way else '')
+            + (f',"confirmed":{quote(confirmed)}' if confirmed else ''))
 
 
 def length(entry: Entry, member: bytes) -> int:

@@ -79,7 +79,7 @@ class FileStore:
         # before anything is cut: a line that another program just writes would look cut off
         self.lock = lock_folder(self.folder)
         try:
-            self.last = self.mended_end()
+            self.last = self.mend_end()
             if self.last.n < applied:
                 raise entries.Broken(f'{folder}: the log ends at entry {self.last.n} '
                                      f'and the registry has applied entry {applied}')
@@ -88,7 +88,7 @@ class FileStore:
             os.close(self.lock)
             raise
 
-    def mended_end(self) -> Point:
+    def mend_end(self) -> Point:
         for path in reversed(self.files()):
             if found := ends.mend(path, line_read(self.key), follows):
                 return found.end

@@ -37,11 +37,11 @@ class Hold:
 
 
 @contextmanager
-def held(address: str) -> Iterator[Hold]:
+def hold_replica(address: str) -> Iterator[Hold]:
     """The replica that listens there applies nothing meanwhile."""
     with ExitStack() as stack:
         try:
-            kept = stack.enter_context(Client(address, PATIENCE).kept('/replica/hold'))
+            kept = stack.enter_context(Client(address, PATIENCE).keep_open('/replica/hold'))
         except NoAnswer as fault:
             raise Broken(f'no replica answers there: {fault}') from fault
         if kept.answer.status != 200:

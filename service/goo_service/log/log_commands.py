@@ -95,6 +95,6 @@ def send_again(words: Words) -> None:
         if not sent.is_same():
             differ += 1
             print(sent.in_words(), flush=True)
-    owner.done_as_owner(words.state, lambda: (folder / 'sent').touch())
+    owner.work_as_owner(words.state, lambda: (folder / 'sent').touch())
     print(f'{count} entries after entry {n} were sent again, '
           f'and {differ} of them came to another outcome')

@@ -33,7 +33,7 @@ def is_asked(target: str, accounts: frozenset[int]) -> bool:
     return target.startswith((CERTIFICATE, CANCELLATION))
 
 
-def shown(target: str, answer: Answer, accounts: frozenset[int]) -> Answer:
+def narrow(target: str, answer: Answer, accounts: frozenset[int]) -> Answer:
     """The answer as such a user sees it: what is of another account is as a stranger's."""
     if answer.status != 200 or STATEMENT.fullmatch(target):
         return answer

@@ -59,11 +59,11 @@ class Sent:
         entry, outcome = self.record.entry, self.record.outcome
         number = f'now entry {self.entry}' if self.entry else 'not taken into the log'
         return (f'entry {entry.n}, {number}: {entry.user or "an agent"} as {entry.caller}, '
-                f'{in_few_words(entry)}: was {outcome.status} {shown(outcome.body)}, '
-                f'is {self.status} {shown(self.body)}')
+                f'{in_few_words(entry)}: was {outcome.status} {render(outcome.body)}, '
+                f'is {self.status} {render(self.body)}')
 
 
-def shown(body: bytes) -> str:
+def render(body: bytes) -> str:
     return ' '.join(body.decode(errors='replace').split())[:300]
 
 

@@ -17,7 +17,7 @@ from goo_service.log import health
 from goo_service.log import narrowed
 from goo_service.log import roles
 from goo_service.log import underway
-from goo_service.log.closed import closed_in
+from goo_service.log.closed import read_closed
 from goo_service.log.door import Call
 from goo_service.log.door import Fields
 from goo_service.log.door import Reply
@@ -115,7 +115,7 @@ class Service:
         """
         if call.target == bounds.TABLES:
             return bounds.of_table(call.body)
-        closed = closed_in(Path(self.replica.options.closed))
+        closed = read_closed(Path(self.replica.options.closed))
         host = bounds.Host(datetime.date.today(), call.day, closed)
         if call.target in bundles.ROUTES:
             is_whole = call.target == bundles.WHOLE
@@ -138,8 +138,6 @@ class Service:
             return reply(plain(503), {})
         if replica.journal.is_aside(call.caller, call.target, call.body):
             return reply(plain(entries.SET_ASIDE, 'Set aside'), {})
-        if replica.options.etcd:                # a host of before could read no such entry
-            call.way = call.confirmed = ''
         if call.target == bundles.WHOLE:
             return self.keep(self.append_whole(call, reply))
         self.append(call, reply)
@@ -178,7 +176,7 @@ class Service:
         if not narrowed.is_asked(call.target, accounts):
             return plain(403), {}
         answer, fields = await self.read(call)
-        return narrowed.shown(call.target, answer, accounts), fields
+        return narrowed.narrow(call.target, answer, accounts), fields
 
     async def read(self, call: Call) -> tuple[Answer, Fields]:
         """Of records that have all that was in the log when the read came.

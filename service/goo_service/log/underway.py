@@ -46,7 +46,7 @@ class Refusals:
         head = f'{mark}\n'.encode()
         kept = self.path.read_bytes() if self.path.exists() else b''
         is_same = kept.startswith(head)
-        found = kept_in(kept[len(head):]) if is_same else {}
+        found = read_refusals(kept[len(head):]) if is_same else {}
         self.close()
         self.file = os.open(self.path, CREATED, 0o640)
         if is_same:         # what a crash left unfinished goes, and all else stays as it was synced
@@ -79,7 +79,7 @@ def refusal_line(number: int, body: bytes) -> bytes:
     return b'%d %b\n' % (number, base64.b64encode(body))
 
 
-def kept_in(text: bytes) -> dict[int, bytes]:
+def read_refusals(text: bytes) -> dict[int, bytes]:
     """The refusals of the file's lines, up to the first that a crash left unfinished."""
     found: dict[int, bytes] = {}
     for line in text.split(b'\n')[:-1]:
@@ -151,14 +151,14 @@ async def no_room(address: str, caller: str) -> str:
     question = compact({'caller': caller, 'lines': 0}) + b'\n'
     try:
         async with asyncio.timeout(ANSWERS):
-            said = json.loads(await asked_meanwhile(address, question))
+            said = json.loads(await ask_meanwhile(address, question))
         return '' if said == {'rehearsed': 0} else f'no bundle can be tried now: {said["error"]}'
     except (OSError, EOFError, ValueError, TypeError, KeyError) as fault:
         why = f'{type(fault).__name__} {fault}'.strip()
         return f'no bundle can be tried now: {why}'
 
 
-async def asked_meanwhile(address: str, question: bytes) -> bytes:
+async def ask_meanwhile(address: str, question: bytes) -> bytes:
     """The same as `asked`, while others are served."""
     reader, writer = await asyncio.open_unix_connection(address)
     try:

@@ -3,7 +3,7 @@
 usage: goo-migrate settings
        goo-migrate check FOLDER
        goo-migrate plan FOLDER
-       goo-migrate rehearse FOLDER [--program PATH]
+       goo-migrate rehearse FOLDER [--program PATH] [--copy COPY]
        goo-migrate run FOLDER [--log SOCKET]
        goo-migrate compare FOLDER COPY
        goo-migrate protocol FOLDER COPY --key FILE
@@ -74,6 +74,8 @@ def words() -> argparse.Namespace:
         if name == 'rehearse':
             verb.add_argument('--program', default=PROGRAM, metavar='PATH',
                               help=f'the registry\'s program ({PROGRAM})')
+            verb.add_argument('--copy', metavar='COPY', help='of a registry that has accounts '
+                              'already, in place of a new one')
         if name == 'run':
             verb.add_argument('--log', default=LOG, metavar='SOCKET',
                               help=f'where the log of requests listens ({LOG})')
@@ -113,7 +115,8 @@ def do_plan(given: argparse.Namespace, settings: Settings) -> int:
 
 
 def do_rehearse(given: argparse.Namespace, settings: Settings) -> int:
-    done = rehearsal.rehearse(given.folder, settings, given.program, show)
+    copy = database_of(given.copy) if given.copy else None
+    done = rehearsal.rehearse(given.folder, settings, given.program, show, copy)
     print(done.text)
     return tell_comparison(given.folder, done.comparison)
 

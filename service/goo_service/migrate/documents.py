@@ -59,7 +59,7 @@ def found(folder: Path, name: str) -> Document:
 
 def attach(folder: Path, into: Path) -> int:
     """Gives the documents to the records; how many are new there."""
-    owner = Owner.named('root', READER) if str(into) == ATTACHMENTS else None
+    owner = Owner.of_names('root', READER) if str(into) == ATTACHMENTS else None
     with work.opened(folder) as database:
         return Attachments(into).add(contents(folder, database.execute(KEPT)), owner)
 

@@ -28,7 +28,9 @@ from goo_service.rules.notices import MOST_PARTS
 from goo_service.rules.notices import notice_text
 
 NAME, NUMBERS, CARRIED = 'plan.jsonl', 'numbers.csv', 'carried.csv'
+ACCOUNTS = 'new-accounts.csv'
 NUMBER_COLUMNS = ('old_first', 'old_last', 'first', 'last', 'device', 'first_day', 'account')
+ACCOUNT_COLUMNS = ('holder', 'name', 'account', 'old_holder', 'old_account')
 CARRIED_COLUMNS = ('device', 'old_carry_wh', 'choice', 'added_to_first_declaration_wh')
 DEVICE = ('site', 'country', 'tech', 'source', 'carrier', 'capacity_w', 'commissioned', 'support')
 ACCOUNT_NUMBERS = '''
@@ -96,6 +98,9 @@ def write(folder: Path, settings: Settings) -> int:
         count = write_lines(folder / NAME, (step.line for step in steps(database, settings)))
         write_table(folder / NUMBERS, NUMBER_COLUMNS, number_rows(database))
         write_table(folder / CARRIED, CARRIED_COLUMNS, carried_rows(database, settings))
+        write_table(folder / ACCOUNTS, ACCOUNT_COLUMNS, database.execute(
+            'SELECT h.code, h.name, a.number, h.old, a.old FROM kept_account AS a '
+            'JOIN kept_holder AS h ON h.old = a.holder ORDER BY a.number'))
         work.note(database, 'plan', hash_of(folder / NAME))
         work.note(database, 'requests', str(count))
         database.execute('COMMIT')

@@ -26,7 +26,7 @@ from goo_service.migrate.sums import Comparison
 from goo_service.migrate.sums import Sums
 
 NAME, SIGNATURE = 'protocol.json', 'protocol.sig'
-LISTS = (plan.NUMBERS, plan.CARRIED, left_out.NAME)
+LISTS = (plan.NUMBERS, plan.CARRIED, plan.ACCOUNTS, left_out.NAME)
 
 
 def stated(folder: Path, settings: Settings, comparison: Comparison,
@@ -82,7 +82,7 @@ def write(folder: Path, settings: Settings, comparison: Comparison, copy: Path,
 
 
 def faults(folder: Path, public: str | None) -> list[str]:
-    """What of a protocol does not hold: the signature, or a file that is another one now.
+    """What of a protocol does not hold: the signature, the comparison, or a file of it.
 
     With `public` the key has to be that one, and not only the one that the signature names.
     """
@@ -90,7 +90,10 @@ def faults(folder: Path, public: str | None) -> list[str]:
     signature, _, signer = (folder / SIGNATURE).read_text(encoding='utf-8').strip().partition(' ')
     if not is_signed(text, signature, public or signer):
         return [f'{NAME} is not signed by {public or "the key that stands beside its signature"}']
-    return list(changed(folder, json.loads(text)))
+    said = json.loads(text)
+    differences = said['differences']
+    told = [f'{differences:,} differences between the tables and the registry'] * bool(differences)
+    return told + changed(folder, said)
 
 
 def changed(folder: Path, said: dict[str, Any]) -> list[str]:

@@ -1,9 +1,9 @@
 """Carries out a plan in a registry of its own, and tells times and sizes.
 
-The registry is a database in the folder `rehearsal`, made anew each time by the program itself. The
-program is started once: it judges all tables as it opens them, which takes long where they are
-large. It listens on a port of a network of its own, so that nobody else on the host reaches it.
-Nothing of the running registry is touched.
+The registry is a database in the folder `rehearsal`, made anew each time by the program itself, or
+a copy of one that has accounts already. The program is started once: it judges all tables as it
+opens them, which takes long where they are large. It listens on a port of a network of its own, so
+that nobody else on the host reaches it. Nothing of the running registry is touched.
 """
 import contextlib
 import json
@@ -69,15 +69,20 @@ class Opening:
                 'memory: MemoryMax= of goo.service has to be above')
 
 
-def rehearse(folder: Path, settings: Settings, program: str, show: Show) -> Rehearsed:
-    """Carries out the plan. Stopped where a request is not answered as planned."""
+def rehearse(folder: Path, settings: Settings, program: str, show: Show,
+             copy: Path | None = None) -> Rehearsed:
+    """Carries out the plan in a new registry, or in one like a copy. Stopped where a request is not
+    answered as planned."""
     _, count = sending.planned(folder)
     place = folder / FOLDER
     shutil.rmtree(place, ignore_errors=True)
     place.mkdir()
     registry = place / DATABASE
-    called([program, 'init', '--db', str(registry), '--code', str(settings.new_code), '--today',
-            settings.date])
+    if copy:
+        shutil.copyfile(copy, registry)
+    else:
+        called([program, 'init', '--db', str(registry), '--code', str(settings.new_code), '--today',
+                settings.date])
     begun = time.monotonic()
     stop = threading.Event()
     with ThreadPoolExecutor(1) as alone:        # of which the network is, and the program in it

@@ -50,7 +50,8 @@ WHERE p.kind = 1 AND p.account >= ? GROUP BY 1, 2, 3, 4 ORDER BY 1, 2, 3, 4
 """The certificates of an account and lot: how many they are."""
 REGISTERED = '''
 SELECT d.gsrn, d.account, d.country, d.site, d.tech, d.source, d.capacity_w, d.commissioned,
-       d.support, coalesce(c.carrier, 'electricity')
+       d.support, coalesce(c.carrier, 'electricity'),
+       coalesce('declared to ' || d.last_day, 'never declared'), d.carry
 FROM device AS d LEFT JOIN device_carrier AS c ON c.gsrn = d.gsrn WHERE d.account >= ?
 ORDER BY d.gsrn
 '''
@@ -58,11 +59,11 @@ LISTS = {
     'holders': ('SELECT code, name FROM kept_holder ORDER BY code',
                 'SELECT code, name FROM holder AS h WHERE NOT EXISTS (SELECT 1 FROM account '
                 'WHERE number < ? AND holder = h.code) ORDER BY code'),
-    'accounts': ('SELECT a.number, h.code FROM kept_account AS a JOIN kept_holder AS h '
+    'accounts': ('SELECT a.number, h.code, 0 FROM kept_account AS a JOIN kept_holder AS h '
                  'ON h.old = a.holder ORDER BY a.number',
-                 'SELECT number, holder FROM account WHERE number >= ? ORDER BY number'),
+                 'SELECT number, holder, closed FROM account WHERE number >= ? ORDER BY number'),
     'devices': ('SELECT d.gsrn, a.number, d.country, d.site, d.tech, d.source, d.capacity_w, '
-                'd.commissioned, d.support, d.carrier FROM kept_device AS d '
+                "d.commissioned, d.support, d.carrier, 'never declared', 0 FROM kept_device AS d "
                 'JOIN kept_account AS a ON a.old = d.account ORDER BY d.gsrn',
                 REGISTERED),
 }

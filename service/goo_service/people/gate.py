@@ -12,6 +12,7 @@ import os
 import re
 import sqlite3
 import sys
+from collections.abc import Awaitable
 from collections.abc import Callable
 from collections.abc import Coroutine
 from collections.abc import Mapping
@@ -22,9 +23,6 @@ from pathlib import Path
 from typing import Any
 from typing import TypeVar
 
-from aiohttp import web
-
-from goo_service.log.bounds import BODY
 from goo_service.people import asked
 from goo_service.people import log_line
 from goo_service.people import outcomes
@@ -32,9 +30,13 @@ from goo_service.people import store
 from goo_service.people.judge import Call
 from goo_service.people.judge import Judge
 from goo_service.people.judge import Refused
+from goo_service.people.judge import Verdict
 from goo_service.people.judge import Waiting
 from goo_service.people.sender import Sender
 from goo_service.people.sender import time_of
+from goo_service.people.serving import Reply
+from goo_service.people.serving import Request
+from goo_service.people.serving import Server
 from goo_service.people.serving import served
 from goo_service.people.store import changing
 from goo_service.people.token_use import Fate
@@ -43,8 +45,8 @@ from goo_service.people.waiting import Waits
 
 FIELDS = ('GOO-Caller', 'GOO-User', 'GOO-Role', 'GOO-Way', 'GOO-Hold', 'GOO-Address')
 """What the front door sends with a write."""
-COMING, UNDER_WAY = 64 << 20, 512
-"""Bytes of bodies, and requests, that are under way at once."""
+SMALL = 16 << 10
+"""Bytes of a body that is read at once, while others wait."""
 ENDS = 30
 """Seconds for what is under way when the service ends."""
 TOLD = {
@@ -55,24 +57,24 @@ TOLD = {
     504: 'no answer came in time: send the same again, under the same key'}
 """As the front door words it."""
 RETRY = 10
+JSON = {'Content-Type': 'application/json'}
 NUMBER = re.compile(r'/waiting/([1-9][0-9]{0,14})')
 """By which goo-people-web has a confirmed request sent. The front door passes on /v1/ alone."""
 T = TypeVar('T')
 
 
-def told(status: int, text: str = '', wait: int = 0) -> web.Response:
+def told(status: int) -> Reply:
     """An answer of the gate itself."""
-    return shown(Refused(status, {'error': text or TOLD[status]},
-                         wait or (RETRY if status in (502, 503, 504) else 0)))
+    return shown(Refused(status, {'error': TOLD[status]},
+                         RETRY if status in (502, 503, 504) else 0))
 
 
-def shown(refused: Refused) -> web.Response:
+def shown(refused: Refused) -> Reply:
     fields = {'Retry-After': str(refused.wait)} if refused.wait else {}
-    return web.Response(status=refused.status, body=refused.body + b'\n', headers=fields,
-                        content_type='application/json')
+    return Reply(refused.status, {**JSON, **fields}, refused.body + b'\n')
 
 
-def shown_waiting(waits: Waits) -> web.Response:
+def shown_waiting(waits: Waits) -> Reply:
     """202: it waits for a second user."""
     members = {'outcome': 'waiting', 'number': waits.id, 'ends': time_of(waits.ends),
                'why': waits.why}
@@ -90,8 +92,9 @@ class Gate:
     thread: ThreadPoolExecutor = field(default_factory=lambda: ThreadPoolExecutor(1))
     """Reads and changes the file, one after another."""
     db: sqlite3.Connection | None = None
-    coming: int = 0
-    under_way: int = 0
+    """The thread's."""
+    reader: sqlite3.Connection | None = None
+    """The loop's, which changes nothing."""
     tasks: set[asyncio.Task[Any]] = field(default_factory=set)
     sender: Sender = field(init=False)
 
@@ -113,6 +116,20 @@ class Gate:
                 raise
         return await asyncio.get_running_loop().run_in_executor(self.thread, done)
 
+    def seen(self, call: Call) -> Verdict | None:
+        """The verdict of most writes, without the way to the thread and back: of a small body for
+        which nothing is changed. None where the thread has to look."""
+        if len(call.body) > SMALL:
+            return None
+        try:
+            if self.reader is None:
+                self.reader = store.open_file(self.path)
+                self.reader.execute('PRAGMA busy_timeout = 0')
+            return self.judge.at_once(self.reader, call)
+        except (store.Fault, sqlite3.Error):
+            self.reader = None
+            return None
+
     def keep(self, work: Coroutine[Any, Any, T]) -> 'asyncio.Task[T]':
         """Goes on with work, whoever waits for it."""
         task = asyncio.get_running_loop().create_task(work)
@@ -122,57 +139,45 @@ class Gate:
 
     # -------------------------------------------------------------- requests
 
-    async def answer(self, request: web.BaseRequest) -> web.StreamResponse:
-        """The answer to one request."""
-        length = request.content_length or 0
-        if length > BODY:
-            return told(413)
-        if self.under_way >= UNDER_WAY or self.coming + length > COMING:
-            return told(503)
-        self.under_way, self.coming = self.under_way + 1, self.coming + length
+    def answer(self, request: Request) -> Reply | Awaitable[Reply]:
+        """The answer to one request. A write goes on where the client has gone."""
+        if request.method == 'POST' and (number := NUMBER.fullmatch(request.target)):
+            return self.keep(self.answered(self.confirmed(int(number[1]))))
+        fields = [request.fields.getall(name, ['']) for name in FIELDS]
+        if request.method != 'POST' or any(len(values) > 1 for values in fields):
+            return told(400)
+        caller, user, role, way, hold, address = (values[0] for values in fields)
+        call = Call(request.target, caller, user, role, way, hold, address, request.body)
+        return self.keep(self.answered(self.handled(call)))
+
+    async def answered(self, work: Coroutine[Any, Any, Reply]) -> Reply:
         try:
-            return await self.answered(request)
+            return await work
         except (store.Fault, sqlite3.Error, OSError) as fault:
             print(f'gate: {fault}', file=sys.stderr, flush=True)
             return told(503)
-        finally:
-            self.under_way, self.coming = self.under_way - 1, self.coming - length
 
-    async def answered(self, request: web.BaseRequest) -> web.StreamResponse:
-        """A write goes on where the client has gone."""
-        target = request.raw_path
-        if request.method == 'POST' and (number := NUMBER.fullmatch(target)):
-            return await self.confirmed(int(number[1]))
-        fields = [request.headers.getall(name, ['']) for name in FIELDS]
-        if request.method != 'POST' or any(len(values) > 1 for values in fields):
-            return told(400)
-        try:
-            body = await request.read()
-        except web.HTTPRequestEntityTooLarge:
-            return told(413)
-        caller, user, role, way, hold, address = (values[0] for values in fields)
-        call = Call(target, caller, user, role, way, hold, address, body)
-        return await asyncio.shield(self.keep(self.handled(call)))
-
-    async def handled(self, call: Call) -> web.Response:
+    async def handled(self, call: Call) -> Reply:
         """What a verdict has for an answer."""
         if call.target not in asked.WRITES:     # the log answers 404, and changes nothing
             return await self.passed(call, None)
-        verdict = await self.of_file(lambda db: self.judge.verdict(db, call))
+        verdict = self.seen(call)
+        if verdict is None:
+            verdict = await self.of_file(lambda db: self.judge.verdict(db, call))
         if isinstance(verdict, Refused):
             return shown(verdict)
         if isinstance(verdict, Waiting):
             return shown_waiting(verdict.waits)
         return await self.passed(call, verdict.reserved)
 
-    async def passed(self, call: Call, reserved: Reserved | None) -> web.Response:
+    async def passed(self, call: Call, reserved: Reserved | None) -> Reply:
         """The log's answer. Where none came it counts as if the request had moved all."""
         fates: Mapping[str, Fate] = {}
         try:
             answer = await log_line.ask(self.log, text_of(call))
             if reserved:
                 fates = outcomes.fates_in(call.target, call.body, answer.status, answer.body)
-            return web.Response(status=answer.status, body=answer.body, headers=answer.fields)
+            return Reply(answer.status, answer.fields, answer.body)
         except log_line.Away:
             fates = dict.fromkeys(reserved.before if reserved else (), Fate.NOTHING)
             return told(502)
@@ -193,11 +198,10 @@ class Gate:
         with contextlib.suppress(store.Fault, sqlite3.Error, OSError):
             await self.of_file(work)
 
-    async def confirmed(self, number: int) -> web.Response:
+    async def confirmed(self, number: int) -> Reply:
         """Sends what was confirmed, for goo-people-web. Nothing else is sent by it."""
-        came = await asyncio.shield(self.keep(self.sender.send(number)))
-        return web.Response(status=200 if came.state != 'sending' else 202, body=came.body,
-                            content_type='application/json')
+        came = await self.keep(self.sender.send(number))
+        return Reply(200 if came.state != 'sending' else 202, JSON, came.body)
 
 
 def text_of(call: Call) -> bytes:
@@ -212,7 +216,7 @@ def text_of(call: Call) -> bytes:
 async def serve(gate: Gate, listen: str) -> None:
     """Serves until the process is told to end; then what is under way is finished."""
     rounds = asyncio.get_running_loop().create_task(gate.sender.rounds())
-    async with served('gate', gate.answer, listen):
+    async with served('gate', Server(gate.answer, told), listen):
         rounds.cancel()
         if gate.tasks:
             await asyncio.wait(gate.tasks, timeout=ENDS)

@@ -94,37 +94,51 @@ class Judge:
 
     uses: Uses = field(default_factory=Uses)
 
-    def verdict(self, db: sqlite3.Connection, call: Call) -> Verdict:
-        """What becomes of a write."""
+    @staticmethod
+    def at_once(db: sqlite3.Connection, call: Call) -> Verdict | None:
+        """What becomes of a write of which the file keeps nothing; None where it may keep
+        something. It only reads."""
         try:
-            return self.looked_at(db, call)
+            return PASSED if looked_at(db, call) is None else None
         except Stop as stop:
             return stop.refused
 
-    def looked_at(self, db: sqlite3.Connection, call: Call) -> Verdict:
-        db.execute('BEGIN')
+    def verdict(self, db: sqlite3.Connection, call: Call) -> Verdict:
+        """What becomes of a write."""
         try:
-            of, scope = known(db, call)
-            rules = four_eyes.rules_for(db, of.caller)
-            has_waiting = bool(db.execute(
-                'SELECT 1 FROM waiting_key WHERE caller = ? LIMIT 1', (of.caller,)).fetchone())
-        finally:
-            db.execute('COMMIT')
-        if scope is None and of.is_unlimited and not rules and not has_waiting:
-            return PASSED
-        lines = asked.lines_of(call.target, call.body)
-        check_rights(of, scope, lines, call)
-        if four_eyes.is_doubtful(rules, lines):
-            raise error(403, 'a line names a member twice: nobody could say what would wait')
-        is_counted = scope is not None and scope.most is not None and any(
-            line.quantity for line in lines)
-        if not rules and not has_waiting and not is_counted:
-            return PASSED
-        with changing(db):
-            verdict = judged(db, call, known(db, call), lines)
+            lines = looked_at(db, call)
+            if lines is None:
+                return PASSED
+            with changing(db):
+                verdict = judged(db, call, known(db, call), lines)
+        except Stop as stop:
+            return stop.refused
         if isinstance(verdict, Passed) and verdict.reserved:
             self.uses.depart(verdict.reserved)
         return verdict
+
+
+def looked_at(db: sqlite3.Connection, call: Call) -> Sequence[Line] | None:
+    """The lines of a write that a rule takes, that is counted, or that may wait already; None where
+    it goes on as it is."""
+    db.execute('BEGIN')
+    try:
+        of, scope = known(db, call)
+        rules = four_eyes.rules_for(db, of.caller)
+        has_waiting = bool(db.execute(
+            'SELECT 1 FROM waiting_key WHERE caller = ? LIMIT 1', (of.caller,)).fetchone())
+    finally:
+        db.execute('COMMIT')
+    if scope is None and of.is_unlimited and not rules and not has_waiting:
+        return None
+    lines = asked.lines_of(call.target, call.body)
+    check_rights(of, scope, lines, call)
+    if four_eyes.is_doubtful(rules, lines):
+        raise error(403, 'a line names a member twice: nobody could say what would wait')
+    is_counted = scope is not None and scope.most is not None and any(
+        line.quantity for line in lines)
+    is_taken = four_eyes.rule_of(rules, lines) is not None
+    return lines if is_taken or has_waiting or is_counted else None
 
 
 def judged(db: sqlite3.Connection, call: Call, who: tuple[Access, Scope | None],

@@ -42,7 +42,7 @@ def connected(address: Address, numbers: Sequence[str], authority: str,
         plain = TimedSocket(socket.AF_INET6 if ':' in number else socket.AF_INET)
         plain.until = until
         try:
-            plain.settimeout(plain.left())
+            plain.settimeout(plain.seconds_left())
             plain.connect((number, address.port))
             return secured(plain, address.host, authority) if address.is_secure else plain
         except OSError as fault:
@@ -55,7 +55,7 @@ def secured(plain: TimedSocket, host: str, authority: str) -> TimedTLS:
     """TLS over a connection, with the other side known by its name."""
     context = ssl.create_default_context(cafile=authority or None)
     context.sslsocket_class = TimedTLS
-    plain.settimeout(plain.left())
+    plain.settimeout(plain.seconds_left())
     made = context.wrap_socket(plain, server_hostname=host)
     assert isinstance(made, TimedTLS)
     made.until = plain.until

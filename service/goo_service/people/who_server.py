@@ -9,16 +9,17 @@ import asyncio
 import os
 import sqlite3
 import sys
+from collections.abc import Awaitable
 from concurrent.futures import ThreadPoolExecutor
 from dataclasses import dataclass
 from dataclasses import field
 from pathlib import Path
 
-from aiohttp import web
-
 from goo_service.people import store
+from goo_service.people.serving import Reply
+from goo_service.people.serving import Request
+from goo_service.people.serving import Server
 from goo_service.people.serving import served
-from goo_service.people.who import Answer
 from goo_service.people.who import Asked
 from goo_service.people.who import Door
 from goo_service.people.who import Work
@@ -28,7 +29,6 @@ COMPARED = 4
 """Passwords that are compared at once."""
 NOTES = 1000
 """Notes that wait to be written at most. More are left out, as where they can't be written."""
-CLOSED = Answer(503)
 
 
 @dataclass
@@ -49,36 +49,34 @@ class Notes:
         self.waiting -= 1
 
 
-class Server:
+class Questions:
     """Answers over one file."""
 
     def __init__(self, path: Path) -> None:
         self.notes = Notes()
         self.door, self.slow = Door(path, self.notes.add), ThreadPoolExecutor(COMPARED)
 
-    async def answer(self, request: web.BaseRequest) -> web.Response:
-        """The answer to one question."""
-        asked = Asked.of(request.headers)
+    def answer(self, request: Request) -> Reply | Awaitable[Reply]:
+        """The answer to one question: at once, unless a password is compared."""
+        asked = Asked.of(request.fields)
         shown = shown_in(asked.authorization) if asked.authorization else None
         if shown is None or shown.is_token:
-            of = self.answered(asked)
-        else:
-            loop = asyncio.get_running_loop()
-            of = await loop.run_in_executor(self.slow, self.answered, asked)
-        return web.Response(status=of.status, headers=of.fields())
+            return self.answered(asked)
+        return asyncio.get_running_loop().run_in_executor(self.slow, self.answered, asked)
 
-    def answered(self, asked: Asked) -> Answer:
+    def answered(self, asked: Asked) -> Reply:
         try:
-            return self.door.answer(asked)
+            of = self.door.answer(asked)
+            return Reply(of.status, of.fields())
         except (store.Fault, sqlite3.Error, OSError) as fault:
             self.door.forget()
             print(f'people: {fault}', file=sys.stderr, flush=True)
-            return CLOSED
+            return Reply(503)
 
 
 async def serve(path: Path, listen: str) -> None:
     """Answers until the process is told to end."""
-    async with served('who', Server(path).answer, listen):
+    async with served('who', Server(Questions(path).answer), listen):
         pass
 
 

@@ -18,10 +18,10 @@ from goo_service.records.questions import number_of
 from goo_service.records.questions import number_or
 from goo_service.records.questions import read
 from goo_service.records.questions import rows_of
-from goo_service.records.questions import quoted
+from goo_service.records.questions import quote
 from goo_service.records.questions import text_of
 from goo_service.records.questions import threes_in
-from goo_service.records.schema import searched
+from goo_service.records.schema import search_text
 
 RANGES = 20
 """Ranges that are shown with an act in a list; the act by itself has all."""
@@ -61,7 +61,7 @@ class Found:
     high: int
 
 
-def found_by(database: sqlite3.Connection, viewer: Viewer, given: Given) -> Found:
+def find_acts(database: sqlite3.Connection, viewer: Viewer, given: Given) -> Found:
     low, high = ids_of(database, given)
     start, conditions = start_of(database, viewer, given, high - low)
     tables, column = STARTS[start]
@@ -73,11 +73,11 @@ def found_by(database: sqlite3.Connection, viewer: Viewer, given: Given) -> Foun
 
 def acts(database: sqlite3.Connection, viewer: Viewer, given: Given) -> Listed:
     """Acts that the viewer may see, the newest first. `before` is the id to go on from."""
-    of, limit = found_by(database, viewer, given), limit_of(given)
+    of, limit = find_acts(database, viewer, given), limit_of(given)
     found = read(database, f'''SELECT act.* FROM {of.tables} WHERE {of.conditions.where}
                                ORDER BY {of.column} DESC LIMIT ?''',
                  (*of.conditions.values, limit))
-    shown = (shown_act(database, viewer, act, RANGES) for act in found.rows)
+    shown = (render_act(database, viewer, act, RANGES) for act in found.rows)
 
     def beside(acts: list[Row]) -> Row:
         return {'next': acts[-1]['id'] if len(acts) == limit else None}
@@ -165,7 +165,7 @@ def add_words(conditions: Conditions, viewer: Viewer, given: Given) -> None:
     if text := text_of(given):
         whose = () if viewer.sees_all else (viewer.caller,)
         own_key = 'CASE WHEN act.caller = ? THEN act.key END' if whose else 'act.key'
-        conditions.add(f'instr(FOLD({searched(own_key)}), ?)', (*whose, text))
+        conditions.add(f'instr(FOLD({search_text(own_key)}), ?)', (*whose, text))
 
 
 # -------------------------------------------------------------------- the index of texts
@@ -184,7 +184,7 @@ def threes_of(database: sqlite3.Connection, begin: str) -> str:
     threes = [three for three, in found]
     if len(threes) == MOST_THREES:
         return ''
-    return ' OR '.join(map(quoted, threes)) or NO_THREE
+    return ' OR '.join(map(quote, threes)) or NO_THREE
 
 
 # -------------------------------------------------------------------- one act
@@ -196,10 +196,10 @@ def act(database: sqlite3.Connection, viewer: Viewer, number: int) -> Row:
                     (number, *values))
     if not found:
         raise NotFound(f'no act {number}')
-    return shown_act(database, viewer, found[0], None)
+    return render_act(database, viewer, found[0], None)
 
 
-def shown_act(database: sqlite3.Connection, viewer: Viewer, row: Row, most: int | None) -> Row:
+def render_act(database: sqlite3.Connection, viewer: Viewer, row: Row, most: int | None) -> Row:
     """An act as the viewer may see it: his own ranges, the user on his own side alone, names beside
     accounts."""
     if not viewer.sees_all and row['caller'] != viewer.caller:
@@ -207,7 +207,7 @@ def shown_act(database: sqlite3.Connection, viewer: Viewer, row: Row, most: int 
     ranges = ranges_of(database, viewer, row['id'])
     sides = {name: party_of(database, row[name]) if row[name] else None
              for name in ('giver', 'taker')}
-    longest = joined(ranges)
+    longest = join_ranges(ranges)
     count = sum(span['count'] for span in ranges)
     return {**row, **sides, 'count': count, 'ranges': longest[:most],
             'ranges_in_all': len(longest)}
@@ -228,7 +228,7 @@ WAY = ('lot', 'account', 'from_account', 'place')
 """What ranges of one act have in common that are told as one."""
 
 
-def joined(ranges: list[Row], same: tuple[str, ...] = WAY) -> list[Row]:
+def join_ranges(ranges: list[Row], same: tuple[str, ...] = WAY) -> list[Row]:
     """Ranges in rising order, those made one that follow each other in the same lot and went the
     same way."""
     longest: list[Row] = []

@@ -67,20 +67,20 @@ class Attachments:
         except (ValueError, TypeError) as fault:
             raise OSError(f'{self.folder / LIST} can not be read') from fault
 
-    def seen_by(self, viewer: Viewer) -> list[Attachment]:
+    def list_for(self, viewer: Viewer) -> list[Attachment]:
         viewer.may_all_of_holder()
         return [of for of in self.read() if viewer.sees_all or of.holder == viewer.caller]
 
-    def listed(self, viewer: Viewer, given: Given) -> Listed:
+    def fetch_page(self, viewer: Viewer, given: Given) -> Listed:
         """A page of the attachments that a viewer sees."""
         limit, offset = limit_of(given), number_or(0, given, 'offset')
-        found = self.seen_by(viewer)[offset:offset + limit]
+        found = self.list_for(viewer)[offset:offset + limit]
         after = {'next': offset + limit if len(found) == limit else None}
         return Listed(COLUMNS, map(asdict, found), lambda _: after)
 
     def content(self, viewer: Viewer, number: int) -> tuple[Attachment, bytes]:
         """An attachment with its bytes. NotFound where the viewer has none of that number."""
-        found = next((of for of in self.seen_by(viewer) if of.number == number), None)
+        found = next((of for of in self.list_for(viewer) if of.number == number), None)
         if found is None:
             raise NotFound(f'there is no attachment {number}')
         with (self.folder / found.sha256).open('rb') as file:

@@ -25,11 +25,11 @@ from goo_service.records.commands import NOBODY
 from goo_service.records.commands import Parties
 from goo_service.records.commands import command_of
 from goo_service.records.commands import command_of_row
-from goo_service.records.commands import kept_of
+from goo_service.records.commands import unread_members
 from goo_service.records.commands import parties_of
 from goo_service.records.registry import Change
 from goo_service.records.schema import Mismatch
-from goo_service.records.schema import folded
+from goo_service.records.schema import fold_text
 from goo_service.records.writer import Writer
 from goo_service.rules import replies
 from goo_service.rules.certificates import EXPORTED
@@ -133,7 +133,7 @@ class Book(Writer):
                            f'has status {outcome.status}')
         is_table = entry.route == TABLE_ROUTE
         first = bundles.lines_of(entry.body)[0] if entry.route in bundles.ROUTES else entry.body
-        command = {'command': 'declare'} if is_table else kept_of(command_of(first))
+        command = {'command': 'declare'} if is_table else unread_members(command_of(first))
         self.apply_command(at, command, Result('refused', ROLE))
 
     def apply_request(self, at: At, body: bytes, outcome: Outcome) -> None:
@@ -170,7 +170,7 @@ class Book(Writer):
     def apply_answered(self, at: At, body: bytes, answer: dict[str, Any]) -> None:
         """Writes a request with the registry's answer."""
         command = command_of(body) if answer['outcome'] != 'unreadable' else {}
-        command = kept_of(command) if answer['outcome'] == 'set aside' else command
+        command = unread_members(command) if answer['outcome'] == 'set aside' else command
         self.apply_command(at, command, Result(
             answer['outcome'], answer.get('name') or answer.get('fault'), answer.get('reply')))
 
@@ -294,13 +294,13 @@ class Book(Writer):
             self.begins[known] = first
             trade_until = months_after(lot.last_day, 12)
             self.insert('lot', known, *lot, trade_until, lot.expires_on, first, last,
-                        folded(lot.site))
+                        fold_text(lot.site))
         return known
 
     # ---------------------------------------------------------------- what commands leave besides
 
     def write_holder(self, act: int, of: Command, _: Reply) -> None:
-        self.insert('holder', of['holder'], of['name'], act, folded(of['name']))
+        self.insert('holder', of['holder'], of['name'], act, fold_text(of['name']))
 
     def write_account(self, act: int, of: Command, answer: Reply) -> None:
         self.insert('account', answer[1], of['holder'], 0, act)
@@ -313,7 +313,7 @@ class Book(Writer):
         device = self.registry.devices[of['device']]
         self.insert('device', of['device'], device['account'],
                     *(device[member] for member in PLANT), device['carrier'],
-                    *self.sums_of(of['device']), act, folded(device['site']))
+                    *self.sums_of(of['device']), act, fold_text(device['site']))
 
     def sums_of(self, gsrn: str) -> list[Any]:
         """Last declared day, energy and certificates of a device."""
@@ -350,7 +350,7 @@ class Book(Writer):
 
     def write_cancellation(self, act: int, of: Command, answer: Reply) -> None:
         self.insert('cancellation', answer[1], *self.registry.cancellations.pop(answer[1]), act,
-                    folded(of['beneficiary']))
+                    fold_text(of['beneficiary']))
 
     def write_peer(self, act: int, of: Command, _: Reply) -> None:
         self.insert('peer', of['peer'], act)

@@ -2,7 +2,7 @@
 import sqlite3
 
 from goo_service.records.acts import party_of
-from goo_service.records.acts import shown_act
+from goo_service.records.acts import render_act
 from goo_service.records.questions import BadQuestion
 from goo_service.records.questions import Conditions
 from goo_service.records.questions import Given
@@ -15,7 +15,7 @@ from goo_service.records.questions import is_set
 from goo_service.records.questions import number_of
 from goo_service.records.questions import number_or
 from goo_service.records.questions import order_of
-from goo_service.records.questions import paged
+from goo_service.records.questions import fetch_page
 from goo_service.records.questions import plant_filters
 from goo_service.records.questions import read
 from goo_service.records.questions import rows_of
@@ -72,7 +72,7 @@ def certificate(database: sqlite3.Connection, viewer: Viewer, number: int) -> Ro
             lot, lot, offset, offset, number, *seen_values))
     return {'number': f'{number:014}', **found[0],
             'holder': party_of(database, found[0]['account']),
-            'life': [shown_act(database, viewer, row, 1) for row in life]}
+            'life': [render_act(database, viewer, row, 1) for row in life]}
 
 
 def conditions_of(viewer: Viewer, given: Given) -> Conditions:
@@ -101,7 +101,7 @@ def holdings(database: sqlite3.Connection, viewer: Viewer, given: Given) -> List
     joined = f'{RUNS} WHERE {conditions.where}'
     names = [column.split(' AS ')[-1].split('.')[-1] for column in GROUPS[by].split(', ')]
     order = order_of(given, [*names, 'count', 'runs'], names[0])
-    found = paged(given, database, f'''
+    found = fetch_page(given, database, f'''
         SELECT {GROUPS[by]}, {SUM}, count(*) AS runs {joined}
         GROUP BY {KEYS.get(by, GROUPS[by])} ORDER BY {order}''', conditions.values)
     whole = f'''SELECT coalesce(sum(run.last - run.first + 1), 0) AS count, count(*) AS runs,
@@ -120,7 +120,7 @@ def deadlines(database: sqlite3.Connection, viewer: Viewer, given: Given) -> Lis
     days = f'+{number_or(60, given, "days", 4000)} days'
     conditions = conditions_of(viewer, {**given, 'place': 'held'})
     near, is_open = f'date({TODAY}, ?)', f'lot.trade_until >= {TODAY}'
-    return paged(given, database, f'''
+    return fetch_page(given, database, f'''
         SELECT run.account, lot.id AS lot, {LOT_COLUMNS}, {SUM},
                CASE WHEN {is_open} THEN 'trade' ELSE 'expiry' END AS next
         {RUNS} WHERE {conditions.where}
@@ -153,11 +153,11 @@ def choice(database: sqlite3.Connection, viewer: Viewer, given: Given) -> Listed
         fit = ' and whose trade is open' if is_tradable else ''
         raise TooFew(f'{there:,} certificates of account {account} are held that fit{fit}, and '
                      f'{count:,} were asked for')
-    chosen = chosen_of(runs, count, order == 'fewest')
+    chosen = choose_runs(runs, count, order == 'fewest')
     return Listed(found.columns, iter(chosen), lambda shown: {'count': count})
 
 
-def chosen_of(runs: list[Row], count: int, fitting: bool) -> list[Row]:
+def choose_runs(runs: list[Row], count: int, fitting: bool) -> list[Row]:
     """The first of these runs that make up the count, the last one cut. With `fitting` the last one
     is the smallest that has enough."""
     chosen: list[Row] = []

@@ -125,7 +125,7 @@ class Accepted:
     is_repeated: bool
 
 
-def accepted_in(record: entries.Record) -> Iterator[Accepted]:
+def read_accepted(record: entries.Record) -> Iterator[Accepted]:
     """The accepted commands of an entry. None of them was written by a role that may not."""
     entry, outcome = record.entry, record.outcome
     if outcome.status != 200 or not roles.allows(entry.role, entry.method, entry.route, entry.body):
@@ -134,18 +134,18 @@ def accepted_in(record: entries.Record) -> Iterator[Accepted]:
         members = command_of(outcome.body)
         if members['outcome'] in ('accepted', 'repeated'):
             command = command_of(entry.body)
-            yield accepted_of(entry.caller, command, members['outcome'])
+            yield parse_accepted(entry.caller, command, members['outcome'])
     elif entry.route in bundles.ROUTES:
         for line, answer in bundles.read_outcomes(entry.body, outcome.body):
             if answer['outcome'] in ('accepted', 'repeated'):
-                yield accepted_of(entry.caller, command_of(line.body), answer['outcome'])
+                yield parse_accepted(entry.caller, command_of(line.body), answer['outcome'])
     elif entry.route == TABLE_ROUTE:
         for row in table_rows.rows_of_table(entry.body, outcome.body):
             if row.outcome in ('accepted', 'repeated'):
-                yield accepted_of(entry.caller, command_of_row(row.fields), row.outcome)
+                yield parse_accepted(entry.caller, command_of_row(row.fields), row.outcome)
 
 
-def accepted_of(caller: str, command: Command, outcome: str) -> Accepted:
+def parse_accepted(caller: str, command: Command, outcome: str) -> Accepted:
     return Accepted(caller, command.get('key'), plain_of(command), outcome == 'repeated')
 
 
@@ -159,7 +159,7 @@ class Since:
     keys: set[tuple[str, object]] = field(default_factory=set)
 
     def apply(self, record: entries.Record) -> None:
-        for of in accepted_in(record):
+        for of in read_accepted(record):
             if of.is_repeated and self.is_known(of.caller, of.key):
                 continue
             self.keys.add((of.caller, of.key))

@@ -47,7 +47,7 @@ class CodeLists:
         return words[at] if at < len(words) else ''.join(words[:1])
 
 
-def unescaped(text: str) -> str:
+def unescape(text: str) -> str:
     """A string of JavaScript without its quotes and escapes."""
     plain = {'n': '\n', 't': '\t', 'r': '\r', 'b': '\b', 'f': '\f', 'v': '\v', '0': '\0', '\n': ''}
 
@@ -67,7 +67,7 @@ def read_lists(text: str) -> CodeLists:
     found: dict[str, dict[str, tuple[str, ...]]] = {}
     for name, constant in LISTS.items():
         block = re.search(rf'\bconst {constant}\s*=\s*\{{(.*?)\}}\s*;', bare, re.S)
-        found[name] = {plain or quoted: tuple(map(unescaped, re.findall(STRING, names)))
+        found[name] = {plain or quoted: tuple(map(unescape, re.findall(STRING, names)))
                        for plain, quoted, names in ENTRY.findall(block[1] if block else '')}
     return CodeLists(found)
 

@@ -99,7 +99,7 @@ def is_kept(value: object) -> bool:
     return isinstance(value, str) and len(value) <= MOST_TEXT and not LONE.search(value)
 
 
-def kept_of(command: Command) -> Command:
+def unread_members(command: Command) -> Command:
     """The texts and numbers of a command that the registry has not read."""
     return {name: value for name, value in command.items() if is_kept(value)}
 

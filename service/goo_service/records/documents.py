@@ -79,7 +79,7 @@ def is_code(text: str, key: bytes, given: str) -> bool:
     return hmac.compare_digest(wanted.encode(), plain.encode(errors='replace'))
 
 
-def seen_document(database: sqlite3.Connection, viewer: Viewer, number: int) -> Row:
+def fetch_document(database: sqlite3.Connection, viewer: Viewer, number: int) -> Row:
     """A document, for those who see the cancellation."""
     of, accounts = document(database, number), viewer.accounts(database)
     if accounts is not None and of['account'] not in accounts:
@@ -87,12 +87,12 @@ def seen_document(database: sqlite3.Connection, viewer: Viewer, number: int) -> 
     return of
 
 
-def shown_documents(database: sqlite3.Connection, viewer: Viewer, given: Given,
-                    maker: Maker) -> Row:
+def render_documents(database: sqlite3.Connection, viewer: Viewer, given: Given,
+                     maker: Maker) -> Row:
     """One document of several cancellations: each of them, the text of all, its number and code,
     and what stands on it."""
     numbers = cancellations_of(database, numbers_of(given, 'numbers'))
-    return whole(database, [seen_document(database, viewer, of) for of in numbers], given, maker)
+    return whole(database, [fetch_document(database, viewer, of) for of in numbers], given, maker)
 
 
 def whole(database: sqlite3.Connection, items: list[Row], given: Given, maker: Maker) -> Row:
@@ -104,14 +104,14 @@ def whole(database: sqlite3.Connection, items: list[Row], given: Given, maker: M
     return {'number': number, 'code': code, 'items': items, 'text': text, 'paper': paper}
 
 
-def shown_document(database: sqlite3.Connection, viewer: Viewer, number: int, key: bytes) -> Row:
+def render_document(database: sqlite3.Connection, viewer: Viewer, number: int, key: bytes) -> Row:
     """A cancellation with its document's text and check code."""
-    of = seen_document(database, viewer, number)
+    of = fetch_document(database, viewer, number)
     text = document_text(of)
     return {**of, 'text': text, 'code': check_code(text, key)}
 
 
-def verified(database: sqlite3.Connection, given: Given, maker: Maker) -> Row | None:
+def verify_document(database: sqlite3.Connection, given: Given, maker: Maker) -> Row | None:
     """What a document says whose number and code belong together; None where they do not, or where
     a seal is given that is not ours. Nobody has to sign in for this."""
     seal = seal_of(given)

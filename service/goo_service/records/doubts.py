@@ -15,7 +15,7 @@ from goo_service.records.questions import Given
 from goo_service.records.questions import Listed
 from goo_service.records.questions import Row
 from goo_service.records.questions import Viewer
-from goo_service.records.questions import paged
+from goo_service.records.questions import fetch_page
 from goo_service.records.questions import rows_of
 
 MOST = 500
@@ -39,11 +39,11 @@ def doubts(database: sqlite3.Connection, viewer: Viewer, _: Given, body: bytes) 
     found = rule.energy_of(rows, known)
     return {'rows': found.rows, 'devices': found.devices, 'net_wh': found.net_wh,
             'load_factor': None if found.factor is None else float(found.factor),
-            'doubts': [shown(doubt, records) for doubt in found.doubts[:MOST]],
+            'doubts': [render_doubt(doubt, records) for doubt in found.doubts[:MOST]],
             'more': max(0, len(found.doubts) - MOST)}
 
 
-def shown(doubt: Doubt, records: Sequence[Sequence[str]]) -> Row:
+def render_doubt(doubt: Doubt, records: Sequence[Sequence[str]]) -> Row:
     """A doubt with the key and the device of its row."""
     key, device = records[doubt.row - 1][:2] if doubt.row else (None, None)
     return {'row': doubt.row, 'key': key, 'device': device, 'kind': doubt.kind,
@@ -81,7 +81,7 @@ def month_of(given: Given, today: str) -> tuple[str, str]:
     return first.isoformat(), (following - datetime.timedelta(1)).isoformat()
 
 
-def undeclared(database: sqlite3.Connection, viewer: Viewer, given: Given) -> Listed:
+def undeclared_months(database: sqlite3.Connection, viewer: Viewer, given: Given) -> Listed:
     """Devices that have not declared a month to its end, each with the days that it has declared of
     it. Where it has declared a later day, it can no more."""
     today, = database.execute('SELECT today FROM meta').fetchone()
@@ -90,11 +90,11 @@ def undeclared(database: sqlite3.Connection, viewer: Viewer, given: Given) -> Li
                             ('of.commissioned <= ?', (last,)), ('of.declared < of.days', ()))
     conditions.add_given({'account': 'of.account = ?'}, given)
     days = first[:7], last, first, last, first, last
-    return paged(given, database, f'''
+    return fetch_page(given, database, f'''
         SELECT gsrn, site, account, holder, name, tech, capacity_w, commissioned, last_day,
                month, days, declared, last_day > ? AS shut_out
         FROM ({DAYS}) AS of WHERE {conditions.where} ORDER BY holder, site, gsrn''',
-                 (last, *days, *conditions.values))
+                      (last, *days, *conditions.values))
 
 
 DAYS = '''

@@ -114,7 +114,7 @@ def facts_of_registry(registry: Registry) -> Iterator[Fact]:
     yield from (withdrawal(number, *of) for number, of in sorted(registry.withdrawals.items()))
     yield from sorted(notices_of_registry(registry), key=lambda fact: fact.key)
     yield from (lot(of) for _, of in sorted(registry.lots.items()))
-    for first, last, its_lot, place in registry.certificates.joined():
+    for first, last, its_lot, place in registry.certificates.longest_runs():
         yield run(first, last, its_lot.key, place.kind, place.account, place.act)
 
 

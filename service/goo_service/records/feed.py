@@ -18,8 +18,8 @@ from dataclasses import dataclass
 from dataclasses import field
 
 from goo_service.records.acts import RANGES
-from goo_service.records.acts import found_by
-from goo_service.records.acts import shown_act
+from goo_service.records.acts import find_acts
+from goo_service.records.acts import render_act
 from goo_service.records.questions import BadQuestion
 from goo_service.records.questions import Given
 from goo_service.records.questions import Listed
@@ -78,11 +78,11 @@ def acts(database: sqlite3.Connection, viewer: Viewer, given: Given) -> Listed:
     if beside := [name for name in NEVER if name in given]:
         raise BadQuestion(f'after does not go with {beside[0]}')
     place, limit = place_of(given), limit_of(given)
-    of = found_by(database, viewer, given)
+    of = find_acts(database, viewer, given)
     found = read(database, f'''SELECT act.* FROM {of.tables} WHERE {of.conditions.where}
                                ORDER BY {of.column} LIMIT ? OFFSET ?''',
                  (*of.conditions.values, limit, place.acts))
-    shown = (shown_act(database, viewer, act, RANGES) for act in found.rows)
+    shown = (render_act(database, viewer, act, RANGES) for act in found.rows)
 
     def beside_of(acts: list[Row]) -> Row:
         entries = [act['entry'] for act in acts]
@@ -120,7 +120,7 @@ class Waiting:
                 self.users.discard(user)
 
 
-def moved_on(entry: Callable[[], int | None], seen: int | None, until: float) -> bool:
+def wait_for_entry(entry: Callable[[], int | None], seen: int | None, until: float) -> bool:
     """Whether the book goes on from an entry before the time is over."""
     while time.monotonic() < until:
         if entry() != seen:

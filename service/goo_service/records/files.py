@@ -18,12 +18,12 @@ PART = 1 << 16
 """Letters that are sent at once."""
 
 
-def presented(value: Any) -> Any:
+def render_value(value: Any) -> Any:
     """The same value with the numbers of certificates as the registry writes them."""
     if isinstance(value, dict):
-        return {name: f'{of:014}' if name in NUMBERS and isinstance(of, int) else presented(of)
+        return {name: f'{of:014}' if name in NUMBERS and isinstance(of, int) else render_value(of)
                 for name, of in value.items()}
-    return [presented(of) for of in value] if isinstance(value, list) else value
+    return [render_value(of) for of in value] if isinstance(value, list) else value
 
 
 def spans(ranges: list[dict[str, Any]]) -> str:

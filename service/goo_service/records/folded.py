@@ -11,9 +11,9 @@ from typing import Any
 
 from goo_service.records.acts import Found
 from goo_service.records.acts import RANGES
-from goo_service.records.acts import found_by
-from goo_service.records.acts import joined
-from goo_service.records.acts import shown_act
+from goo_service.records.acts import find_acts
+from goo_service.records.acts import join_ranges
+from goo_service.records.acts import render_act
 from goo_service.records.questions import Given
 from goo_service.records.questions import Listed
 from goo_service.records.questions import Row
@@ -53,7 +53,7 @@ class Question:
 
 def acts(database: sqlite3.Connection, viewer: Viewer, given: Given) -> Listed:
     """Acts as a list of them has them, with each bundle as one row."""
-    of, limit = found_by(database, viewer, given), limit_of(given)
+    of, limit = find_acts(database, viewer, given), limit_of(given)
     shown = rows(Question(database, viewer, of), of.high, limit)
     lowest: list[int] = []
 
@@ -77,18 +77,18 @@ def rows(found: Question, high: int, limit: int) -> Iterator[Row]:
         for act in acts:
             if act['id'] > low or not left:
                 continue                        # it is told in the row of its bundle
-            row = folded(found, act) if act['bundle'] else single(found, act)
+            row = fold_bundle(found, act) if act['bundle'] else single(found, act)
             low, left = row['lowest'] - 1, left - 1
             yield row
         acts = found.below(low) if left else []
 
 
 def single(found: Question, act: Row) -> Row:
-    shown = shown_act(found.database, found.viewer, act, RANGES)
+    shown = render_act(found.database, found.viewer, act, RANGES)
     return {**shown, **ALONE, 'lowest': act['id']}
 
 
-def folded(found: Question, act: Row) -> Row:
+def fold_bundle(found: Question, act: Row) -> Row:
     """One row of a bundle. It is that of its first accepted act, or of the first one."""
     ids, values = found.of_bundle(act['bundle'])
     among = f'FROM act WHERE act.id IN ({ids})'
@@ -98,10 +98,10 @@ def folded(found: Question, act: Row) -> Row:
         SELECT min(id) AS lowest, count(*) AS acts, sum(outcome != 'accepted') AS failed,
                coalesce(min(CASE outcome WHEN 'accepted' THEN id END), min(id)) AS first,
                max(number) AS last_number, {distinct} {among}''', values)
-    shown = shown_act(found.database, found.viewer, act_of(found, of['first']), 0)
+    shown = render_act(found.database, found.viewer, act_of(found, of['first']), 0)
     other = {name: None for name in SAME[1:]
              if of[name] > 1 or of[f'{name}_there'] not in (0, of['acts'])}
-    ranges = joined_ranges(found, ids, values)
+    ranges = fetch_ranges(found, ids, values)
     return {**shown, **other, 'count': sum(span['count'] for span in ranges),
             'ranges': ranges[:RANGES], 'ranges_in_all': len(ranges), 'acts': of['acts'],
             'failed': of['failed'], 'last_number': of['last_number'], 'lowest': of['lowest']}
@@ -111,7 +111,7 @@ def act_of(found: Question, number: int) -> Row:
     return rows_of(found.database, 'SELECT act.* FROM act WHERE act.id = ?', (number,))[0]
 
 
-def joined_ranges(found: Question, ids: str, values: tuple[Any, ...]) -> list[Row]:
+def fetch_ranges(found: Question, ids: str, values: tuple[Any, ...]) -> list[Row]:
     """What the acts moved, as far as the viewer held or received it: the longest ranges of numbers
     that went the same way. `lot` is that of the first certificate."""
     own_from, from_values = found.viewer.of_accounts('moved.from_account')
@@ -121,4 +121,4 @@ def joined_ranges(found: Question, ids: str, values: tuple[Any, ...]) -> list[Ro
                moved.account, moved.from_account, PLACE(moved.kind) AS place
         FROM moved WHERE moved.act IN ({ids}) AND ({own_from} OR {own_to})
         ORDER BY moved.first''', (*values, *from_values, *to_values))
-    return joined(spans, ('account', 'from_account', 'place'))
+    return join_ranges(spans, ('account', 'from_account', 'place'))

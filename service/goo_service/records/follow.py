@@ -201,7 +201,7 @@ def records_of(archive: Path, after: int) -> Iterator[entries.Record | None]:
         yield record
 
 
-def followed_book(given: argparse.Namespace, path: Path) -> Followed:
+def open_book(given: argparse.Namespace, path: Path) -> Followed:
     """The book that is there where it can go on, or a new one: then the reason is told."""
     place, folder = place_of(given), Path(given.into)
     try:
@@ -221,6 +221,6 @@ def follow(given: argparse.Namespace) -> int:
         clear(folder)
         path = folder / f'book-{time.time_ns()}.db'
         try:
-            return followed_book(given, path.with_suffix('.making')).follow(path)
+            return open_book(given, path.with_suffix('.making')).follow(path)
         finally:
             clear(folder)           # of a book that was not finished

@@ -47,7 +47,7 @@ def pieces(text: str) -> Iterator[Piece]:
         yield Piece(plain)
 
 
-def shown(text: str) -> str:
+def render(text: str) -> str:
     """A text as it is read on paper."""
     return ''.join(piece.text for piece in pieces(text))
 

@@ -10,14 +10,14 @@ from goo_service.records.acts import FIRST
 from goo_service.records.acts import LAST
 from goo_service.records.certificates import LOT_FILTERS
 from goo_service.records.pages import Query
-from goo_service.records.pages import paged_by
+from goo_service.records.pages import read_page
 from goo_service.records.questions import BadQuestion
 from goo_service.records.questions import Condition
 from goo_service.records.questions import Conditions
 from goo_service.records.questions import Given
 from goo_service.records.questions import Listed
 from goo_service.records.questions import Viewer
-from goo_service.records.questions import paged
+from goo_service.records.questions import fetch_page
 from goo_service.records.questions import plant_filters
 from goo_service.records.questions import text_of
 from goo_service.records.questions import threes_in
@@ -53,7 +53,7 @@ class List(Query):
     """The condition that a text is found in a row, where it has one."""
 
 
-def found_in(table: str) -> Callable[[str], Condition]:
+def name_search(table: str) -> Callable[[str], Condition]:
     """A text is in the name of a row, by the index of names where it has three letters."""
     def condition(text: str) -> Condition:
         inside = f'instr({NAMES[table]}, ?)', (text,)
@@ -65,10 +65,10 @@ def found_in(table: str) -> Callable[[str], Condition]:
     return condition
 
 
-def found_by(column: str, table: str, key: str) -> Callable[[str], Condition]:
+def name_search_by(column: str, table: str, key: str) -> Callable[[str], Condition]:
     """A text is in the name of the row of another table that a column names."""
     def condition(text: str) -> Condition:
-        inside, values = found_in(table)(text)
+        inside, values = name_search(table)(text)
         return f'{column} IN (SELECT {table}.{key} FROM {table} WHERE {inside})', values
 
     return condition
@@ -80,7 +80,7 @@ LISTS = {
         'account JOIN holder ON holder.code = account.holder', 'account.number', 'number',
         {'number': 'account.number', 'holder': 'account.holder', 'name': 'holder.folded'},
         account='account.number', filters={'holder': 'account.holder = ?'},
-        found=found_by('account.holder', 'holder', 'code')),
+        found=name_search_by('account.holder', 'holder', 'code')),
     'devices': List(
         PLANT_COLUMNS, 'device', 'device.gsrn', 'gsrn',
         {'gsrn': 'device.gsrn', 'site': 'device.folded', 'commissioned': 'device.commissioned',
@@ -88,7 +88,7 @@ LISTS = {
         filters={'device': 'device.gsrn = ?', **plant_filters('device'),
                  **{name: f'device.{name} = ?'
                     for name in ('tech', 'source', 'country', 'carrier', 'support')}},
-        found=found_in('device')),
+        found=name_search('device')),
     'declarations': List(
         '''declaration.*, device.site, device.account, act.entry, act.time, act.day, act.user,
         act.caller, act.key''',
@@ -97,7 +97,7 @@ LISTS = {
         {'act': 'declaration.act'}, account='device.account',
         filters={'device': 'declaration.device = ?', 'from': 'declaration.first_day >= ?',
                  'to': 'declaration.last_day <= ?'},
-        found=found_by('declaration.device', 'device', 'gsrn')),
+        found=name_search_by('declaration.device', 'device', 'gsrn')),
     'corrections': List(
         '''correction.*, device.site, device.account, act.day, act.entry, act.time, act.number,
         withdrawal.reason, withdrawal.first, withdrawal.last''',
@@ -106,14 +106,14 @@ LISTS = {
         LEFT JOIN withdrawal ON withdrawal.number = correction.withdrawal''',
         'correction.act', '-act', {'act': 'correction.act'}, account='device.account',
         filters={'device': 'correction.device = ?'},
-        found=found_by('correction.device', 'device', 'gsrn')),
+        found=name_search_by('correction.device', 'device', 'gsrn')),
     'cancellations': List(
         f'{CANCELLATION}, cancellation.last - cancellation.first + 1 AS count', 'cancellation',
         'cancellation.number', '-number',
         {'number': 'cancellation.number', 'day': 'cancellation.day',
          'beneficiary': 'cancellation.folded'}, account='cancellation.account',
         filters={'number': 'cancellation.number = ?', 'from': 'cancellation.day >= ?',
-                 'to': 'cancellation.day <= ?'}, found=found_in('cancellation')),
+                 'to': 'cancellation.day <= ?'}, found=name_search('cancellation')),
     'notices': List(
         'notice.*', 'notice', 'notice.act', '-act', {'act': 'notice.act'},
         account='notice.account',
@@ -135,14 +135,14 @@ FLOWS = {'issued': "act.kind = 'issue'", 'imported': "act.kind = 'import'",
          'withdrawn': f'moved.kind = {WITHDRAWN}', 'exported': f'moved.kind = {EXPORTED}'}
 
 
-def listed(name: str, database: sqlite3.Connection, viewer: Viewer, given: Given) -> Listed:
+def fetch_list(name: str, database: sqlite3.Connection, viewer: Viewer, given: Given) -> Listed:
     """A list of the registry's records, the newest first where they are acts."""
     of = LISTS[name]
     conditions = Conditions(viewer.of_accounts(of.account))
     conditions.add_given({'account': f'{of.account} = ?', **of.filters}, given)
     if of.found and (text := text_of(given)):
         conditions.add(*of.found(text))
-    found = paged_by(of, database, conditions, given)
+    found = read_page(of, database, conditions, given)
     if viewer.sees_all:
         return found
     hidden = {name for name in ('user', 'key') if name in found.columns}
@@ -157,15 +157,15 @@ def holders(database: sqlite3.Connection, viewer: Viewer, given: Given) -> Liste
     conditions = Conditions(*([] if viewer.sees_all else [own]))
     conditions.add_given({'holder': 'holder.code = ?'}, given)
     if text := text_of(given):
-        conditions.add(*found_in('holder')(text))
-    return paged_by(HOLDERS, database, conditions, given)
+        conditions.add(*name_search('holder')(text))
+    return read_page(HOLDERS, database, conditions, given)
 
 
 def withdrawals(database: sqlite3.Connection, viewer: Viewer, given: Given) -> Listed:
     """Withdrawals with their reason. A holder sees those of certificates that he held, and his part
     of their range."""
     conditions = Conditions(viewer.of_accounts('moved.account'))
-    return paged_by(WITHDRAWALS, database, conditions, given)
+    return read_page(WITHDRAWALS, database, conditions, given)
 
 
 def statistics(database: sqlite3.Connection, viewer: Viewer, given: Given) -> Listed:
@@ -183,6 +183,6 @@ def statistics(database: sqlite3.Connection, viewer: Viewer, given: Given) -> Li
     sums = ', '.join(f'sum(CASE WHEN {test} THEN {LAST} - {FIRST} + 1 ELSE 0 END) AS {name}'
                      for name, test in FLOWS.items())
     places = ', '.join(map(str, range(1, len(by) + 1)))
-    return paged(given, database, f'''
+    return fetch_page(given, database, f'''
         SELECT {columns}, {sums} FROM moved CROSS JOIN act ON act.id = moved.act {BY_LOT}
         WHERE {conditions.where} GROUP BY {places} ORDER BY {places}''', conditions.values)

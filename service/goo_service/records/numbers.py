@@ -113,10 +113,10 @@ def number_of_document(database: sqlite3.Connection, numbers: Sequence[int]) -> 
     if following(database, numbers[0], len(numbers)) == list(numbers):
         own, = database.execute('SELECT code FROM meta').fetchone()
         return str(DocumentNumber(own, numbers[0], len(numbers)))
-    return listed(numbers)
+    return render_list(numbers)
 
 
-def listed(numbers: Sequence[int]) -> str:
+def render_list(numbers: Sequence[int]) -> str:
     """Numbers in rising order as a list: `1-3,7`."""
     spans: list[list[int]] = []
     for number in numbers:

@@ -91,8 +91,8 @@ def too_large(value: Value) -> bool:
     return isinstance(value, int) and abs(value) >= 2 ** 63
 
 
-def paged_by(query: Query, database: sqlite3.Connection, conditions: Conditions,
-             given: Given) -> Listed:
+def read_page(query: Query, database: sqlite3.Connection, conditions: Conditions,
+              given: Given) -> Listed:
     """A page of a list, and the place behind its last row."""
     order, limit = order_of(query, given), limit_of(given)
     if text := given.get('after'):
@@ -107,10 +107,10 @@ def paged_by(query: Query, database: sqlite3.Connection, conditions: Conditions,
     def beside(shown: list[Row]) -> Row:
         return {'next': after_of(order, places[-1]) if len(shown) == limit else None}
 
-    return Listed(found.columns[:-2], placed(found.rows, places), beside)
+    return Listed(found.columns[:-2], strip_places(found.rows, places), beside)
 
 
-def placed(rows: Iterator[Row], places: list[tuple[Value, Value]]) -> Iterator[Row]:
+def strip_places(rows: Iterator[Row], places: list[tuple[Value, Value]]) -> Iterator[Row]:
     """The rows without their places; that of the last one is kept."""
     for row in rows:
         places[:] = [(row.pop('place_value'), row.pop('place_key'))]

@@ -56,7 +56,7 @@ class Writer:
     def words(self) -> Words:
         return Words(self.language)
 
-    def coded(self, name: str, code: str) -> str:
+    def render_code(self, name: str, code: str) -> str:
         """A code with its word in front."""
         word = self.lists.word(name, code, self.language)
         return f'{word} {code}' if word else code
@@ -77,19 +77,19 @@ class Writer:
             first = items[0]
             claim = [claim[0], words(' of energy, used from {} to {} by ', first['use_first'],
                                      first['use_last']), first['beneficiary']]
-        lots = joined(items)
+        lots = join_lots(items)
         address = address_of(self.body.page, number, code) if self.body.site else ''
         tables = [self.summary(lots, total), self.certificates(lots, total)]
         return {
             'language': self.language, 'number': number, 'code': code,
             'house': words('Registry of guarantees of origin {}', f'{own:02}'),
-            'title': words('Document of cancellation {}', shortened(number)), 'claim': claim,
+            'title': words('Document of cancellation {}', shorten(number)), 'claim': claim,
             'facts': self.facts(items, total, is_one_use), 'notes': self.notes(items, lots),
             'tables': tables if is_one_use else [self.uses(items), *tables],
             'check': self.check(number, code, address), 'address': address,
             'qr': qr_of(address) if address else [],
             'foot': words(FOOT),
-            'each_page': words('Document {}, check code {}', shortened(number), code),
+            'each_page': words('Document {}, check code {}', shorten(number), code),
             'page': words('page {} of {}', '{}', '{}')}
 
     def facts(self, items: Sequence[Row], total: int, is_one_use: bool) -> list[Row]:
@@ -148,7 +148,7 @@ class Writer:
             key = lot.of['country'], lot.of['tech'], month
             sums[key] = sums.get(key, 0) + lot.count
         count = self.words.count
-        rows = [[[self.coded('country', country)], [self.coded('tech', tech)], [month],
+        rows = [[[self.render_code('country', country)], [self.render_code('tech', tech)], [month],
                  [count(sums[country, tech, month])]] for country, tech, month in sorted(sums)]
         return self.table('By country, technology and month of production', SUMMARY,
                           [*rows, [[self.words('In all')], [], [], [count(total)]]])
@@ -161,8 +161,8 @@ class Writer:
 
     def row(self, lot: 'Lot') -> list[list[str]]:
         words, of = self.words, lot.of
-        return [[of['site'], of['device'], self.coded('country', of['country'])],
-                [self.coded('tech', of['tech']), self.coded('source', of['source']),
+        return [[of['site'], of['device'], self.render_code('country', of['country'])],
+                [self.render_code('tech', of['tech']), self.render_code('source', of['source']),
                  words(of['carrier'])],
                 [of['first_day'], of['last_day']],
                 [power(of['capacity_w'], words), words('since {}', of['commissioned']),
@@ -195,7 +195,7 @@ class Lot:
         return sum(last - first + 1 for first, last in self.ranges)
 
 
-def joined(items: Iterable[Row]) -> list[Lot]:
+def join_lots(items: Iterable[Row]) -> list[Lot]:
     """The lots of cancellations, each once, in the order of their first certificates."""
     found: dict[tuple[object, ...], Lot] = {}
     parts = sorted((lot for of in items for lot in of['lots']), key=lambda lot: int(lot['first']))
@@ -223,7 +223,7 @@ def power(watts: int, words: Words) -> str:
     return f'{words.count(watts // unit)} {name}'
 
 
-def shortened(number: str) -> str:
+def shorten(number: str) -> str:
     """The number of a document; of a long list its beginning."""
     return number if len(number) <= MOST_SHOWN else f'{number[:MOST_SHOWN].rpartition(",")[0]},…'
 

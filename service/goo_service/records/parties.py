@@ -23,7 +23,7 @@ from goo_service.records.questions import NotFound
 from goo_service.records.questions import Row
 from goo_service.records.questions import Viewer
 from goo_service.records.questions import number_of
-from goo_service.records.questions import paged
+from goo_service.records.questions import fetch_page
 from goo_service.records.questions import rows_of
 
 WRONG, SECONDS = 3, 60
@@ -110,7 +110,7 @@ class Parties:
         """Open accounts with their holders."""
         if not (self.is_shown or viewer.sees_all):
             raise NotFound('the issuing body shows no directory of accounts')
-        return paged(given, database, '''
+        return fetch_page(given, database, '''
             SELECT account.number AS account, account.holder, holder.name
             FROM account JOIN holder ON holder.code = account.holder
             WHERE NOT account.closed ORDER BY account.number''', ())

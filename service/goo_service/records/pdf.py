@@ -67,7 +67,8 @@ def environment(folder: str) -> dict[str, str]:
 def pdfs(papers: Iterable[Row], seconds: float = SECONDS) -> Iterator[bytes]:
     """The PDF of each document, made when it is asked for, each within so many seconds."""
     need_renderer()
-    with (tempfile.TemporaryDirectory(prefix='goo-pdf-') as folder, started(folder) as process):
+    with (tempfile.TemporaryDirectory(prefix='goo-pdf-') as folder,
+          start_renderer(folder) as process):
         try:
             for paper in papers:
                 need_bounded(paper)
@@ -76,7 +77,7 @@ def pdfs(papers: Iterable[Row], seconds: float = SECONDS) -> Iterator[bytes]:
             process.kill()
 
 
-def started(folder: str) -> 'subprocess.Popen[bytes]':
+def start_renderer(folder: str) -> 'subprocess.Popen[bytes]':
     return subprocess.Popen(WORDS, stdin=subprocess.PIPE, stdout=subprocess.PIPE,
                             stderr=subprocess.DEVNULL, cwd='/', env=environment(folder))
 

@@ -45,20 +45,20 @@ SIDE = 4
 """Light modules around a QR code (ISO/IEC 18004)."""
 
 
-def written(text: str) -> str:
+def visible(text: str) -> str:
     """A text that others may have written, with its special characters shown by their codes."""
     inner = ''.join(f'<span class="mark">{piece.text}</span>' if piece.is_mark
                     else escape(piece.text) for piece in pieces(text))
     return f'<bdi>{inner}</bdi>'
 
 
-def quoted(text: str) -> str:
+def quote(text: str) -> str:
     """A text as a string of CSS within a style element."""
     return json.dumps(text, ensure_ascii=False).replace('<', '\\3c ')
 
 
 def lines(texts: list[str], kind: str = 'line') -> str:
-    return ''.join(f'<span class="{kind}">{written(text)}</span>' for text in texts)
+    return ''.join(f'<span class="{kind}">{visible(text)}</span>' for text in texts)
 
 
 def qr(rows: list[str]) -> str:
@@ -77,7 +77,7 @@ def table(of: Row) -> str:
     kinds = [column['kind'] for column in of['columns']]
     beside = [at for at, kind in enumerate(kinds) if kind != 'ranges']
     below = [at for at, kind in enumerate(kinds) if kind == 'ranges']
-    heads = ''.join(f'<th class="{kinds[at]}">{written(of["columns"][at]["name"])}</th>'
+    heads = ''.join(f'<th class="{kinds[at]}">{visible(of["columns"][at]["name"])}</th>'
                     for at in beside)
     rows = []
     for row in of['rows']:
@@ -86,26 +86,26 @@ def table(of: Row) -> str:
         rows.append(f'<tr class="{"lot" if ranges else ""}">{cells}</tr>')
         if ranges:
             rows.append(f'<tr><td class="ranges" colspan="{len(beside)}">{ranges}</td></tr>')
-    return (f'<table><caption>{written(of["caption"])}</caption>'
+    return (f'<table><caption>{visible(of["caption"])}</caption>'
             f'<thead><tr>{heads}</tr></thead><tbody>{"".join(rows)}</tbody></table>')
 
 
 def page(of: Row) -> str:
     """The document as HTML."""
-    before, between, after = map(quoted, of['page'].split('{}'))
-    style = STYLE % (quoted(of['each_page']), before, between, after)
-    claim = ''.join(written(text) if at % 2 else f'<b>{written(text)}</b>'
+    before, between, after = map(quote, of['page'].split('{}'))
+    style = STYLE % (quote(of['each_page']), before, between, after)
+    claim = ''.join(visible(text) if at % 2 else f'<b>{visible(text)}</b>'
                     for at, text in enumerate(of['claim']))
-    facts = ''.join(f'<div><small>{written(fact["name"])}</small>{lines(fact["lines"])}</div>'
+    facts = ''.join(f'<div><small>{visible(fact["name"])}</small>{lines(fact["lines"])}</div>'
                     for fact in of['facts'])
-    notes = ''.join(f'<p class="note">{written(text)}</p>' for text in of['notes'])
+    notes = ''.join(f'<p class="note">{visible(text)}</p>' for text in of['notes'])
     check = of['check']
     return f'''<!doctype html>
 <html lang="{of["language"]}"><head><meta charset="utf-8"><title>{escape(of["title"])}</title>
 <style>{style}</style></head><body>
-<p class="house">{written(of["house"])}</p><h1>{written(of["title"])}</h1>
+<p class="house">{visible(of["house"])}</p><h1>{visible(of["title"])}</h1>
 <p class="claim">{claim}</p><div class="facts">{facts}</div>{notes}
-<div class="check">{qr(of["qr"])}<p>{written(check["name"])} <b>{written(check["code"])}</b></p>
-<p class="foot">{written(check["text"])}</p></div>
+<div class="check">{qr(of["qr"])}<p>{visible(check["name"])} <b>{visible(check["code"])}</b></p>
+<p class="foot">{visible(check["text"])}</p></div>
 {"".join(map(table, of["tables"]))}
-<p class="foot">{written(of["foot"])}</p></body></html>'''
+<p class="foot">{visible(of["foot"])}</p></body></html>'''

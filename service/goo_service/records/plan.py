@@ -94,7 +94,7 @@ def size(spans: Iterable[Span]) -> int:
     return sum(last - first + 1 for first, last in spans)
 
 
-def joined(spans: Iterable[Span]) -> list[Span]:
+def join_spans(spans: Iterable[Span]) -> list[Span]:
     """The same numbers in as few ranges as there can be."""
     found: list[Span] = []
     for first, last in sorted(spans):
@@ -295,7 +295,7 @@ def short(want: Want, lacking: int, shelf: Shelf) -> Fault:
     return Fault(want.row, 'quantity', 'short', want.count - lacking, want.count)
 
 
-def planned(runs: Iterable[Run], wants: Sequence[Want]) -> Plan:
+def make_plan(runs: Iterable[Run], wants: Sequence[Want]) -> Plan:
     """Which ranges each row takes. A row is named once, and no certificate is in two runs."""
     plan, named = Plan(), Named(sorted(runs, key=lambda run: run.first))
     for want in wants:
@@ -312,7 +312,7 @@ def planned(runs: Iterable[Run], wants: Sequence[Want]) -> Plan:
     plan.faults += [short(rows[row], count, shelf) for row, count in lacking.items() if count]
     plan.faults.sort(key=lambda fault: fault.row)
     for row, spans in cut(shelf).items():
-        plan.ranges[row] = joined(spans)
+        plan.ranges[row] = join_spans(spans)
     return plan
 
 

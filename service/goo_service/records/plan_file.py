@@ -68,7 +68,7 @@ def of_spreadsheet(data: bytes) -> Iterator[list[str]]:
     """The records of the first sheet."""
     if openpyxl is None:
         raise Unreadable('xlsx_none')
-    bound(data)
+    verify_size(data)
     try:
         book = openpyxl.load_workbook(io.BytesIO(data), read_only=True, data_only=False)
         sheet = book.worksheets[0]
@@ -79,7 +79,7 @@ def of_spreadsheet(data: bytes) -> Iterator[list[str]]:
         raise Unreadable('xlsx') from fault
 
 
-def bound(data: bytes) -> None:
+def verify_size(data: bytes) -> None:
     """Raises Unreadable for a spreadsheet that is larger than a table, or grows as it is read."""
     try:
         with zipfile.ZipFile(io.BytesIO(data)) as archive:

@@ -6,11 +6,11 @@ import zipfile
 from collections.abc import Iterator
 
 from goo_service.records.documents import Maker
-from goo_service.records.documents import seen_document
+from goo_service.records.documents import fetch_document
 from goo_service.records.documents import whole
 from goo_service.records.files import csv_of
 from goo_service.records.plans import DIGEST
-from goo_service.records.plans import sent
+from goo_service.records.plans import fetch_outcomes
 from goo_service.records.questions import BadQuestion
 from goo_service.records.questions import Given
 from goo_service.records.questions import NotFound
@@ -31,11 +31,11 @@ def papers(database: sqlite3.Connection, viewer: Viewer, given: Given,
     digest = given.get('table') or ''
     if not TABLE.fullmatch(digest):
         raise BadQuestion(f'table is {digest[:40]!r}, and not the digest of one')
-    rows = [row for row in sent(database, viewer, digest) if row['numbers']]
+    rows = [row for row in fetch_outcomes(database, viewer, digest) if row['numbers']]
     if not rows:
         raise NotFound(f'no cancellation was sent by the table {digest}')
     for row in rows:
-        items = [seen_document(database, viewer, number) for number in row['numbers']]
+        items = [fetch_document(database, viewer, number) for number in row['numbers']]
         yield {'row': row['row'], **whole(database, items, given, maker)}
 
 

@@ -86,7 +86,7 @@ def ranges_of(text: str) -> tuple[Span, ...]:
     return tuple(found)
 
 
-def matched(pattern: str) -> Callable[[str], str]:
+def pattern_reader(pattern: str) -> Callable[[str], str]:
     """A reader of texts that fit a pattern, in capital letters."""
     def read(text: str) -> str:
         plain = ''.join(text.split()).upper()
@@ -97,10 +97,11 @@ def matched(pattern: str) -> Callable[[str], str]:
 
 
 READERS: dict[str, Callable[[str], object]] = {
-    'account': whole_of, 'holder': matched('[A-Z0-9-]{1,16}'), 'beneficiary': name_of,
+    'account': whole_of, 'holder': pattern_reader('[A-Z0-9-]{1,16}'), 'beneficiary': name_of,
     'use_first': day_of, 'use_last': day_of, 'quantity': whole_of, 'ranges': ranges_of,
-    'tech': matched(r'T[0-9]{6}|T[0-9]{0,5}\*'), 'source': matched(r'F[0-9]{8}|F[0-9]{0,7}\*'),
-    'country': matched('[A-Z]{2}'), 'device': matched('[0-9]{18}'), 'month': month_of,
+    'tech': pattern_reader(r'T[0-9]{6}|T[0-9]{0,5}\*'),
+    'source': pattern_reader(r'F[0-9]{8}|F[0-9]{0,7}\*'),
+    'country': pattern_reader('[A-Z]{2}'), 'device': pattern_reader('[0-9]{18}'), 'month': month_of,
     'reference': name_of}
 KINDS = {'account': 'number', 'quantity': 'number', 'use_first': 'day', 'use_last': 'day',
          'beneficiary': 'name', 'reference': 'name', 'ranges': 'ranges', 'month': 'month'}

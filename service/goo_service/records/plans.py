@@ -27,7 +27,7 @@ from goo_service.records.plan import Fault
 from goo_service.records.plan import Plan
 from goo_service.records.plan import Run
 from goo_service.records.plan import Span
-from goo_service.records.plan import planned
+from goo_service.records.plan import make_plan
 from goo_service.records.plan import size
 from goo_service.records.plan_file import MOST_ROWS
 from goo_service.records.plan_file import Unreadable
@@ -143,16 +143,17 @@ class Question:
     def answer(self) -> Row:
         """What the table comes to."""
         table = self.table
-        earlier = [] if table.faults else sent(self.database, self.viewer, table.digest)
+        earlier = [] if table.faults else fetch_outcomes(self.database, self.viewer, table.digest)
         known: dict[str, Any] = {
             'digest': table.digest, 'command': table.command, 'account': table.account,
             'sent': earlier, 'rows': [], 'faults': [], 'requests': 0, 'more': 0}
         if earlier or any(not fault.row for fault in table.faults):
-            return {**known, 'faults': [told(fault) for fault in table.faults[:MOST_FAULTS]]}
+            faults = table.faults[:MOST_FAULTS]
+            return {**known, 'faults': list(map(render_fault, faults))}
         wrong = {fault.row for fault in table.faults}
         wants = [line.want for line in table.lines if line.row not in wrong]
         runs = runs_of(self.database, table.command, table.account)
-        plan = planned(runs, wants)
+        plan = make_plan(runs, wants)
         names = self.names(wrong) if table.command == TRANSFER else {}
         faults = [*table.faults, *plan.faults, *(of for of in names.values()
                                                  if isinstance(of, Fault))]
@@ -161,7 +162,7 @@ class Question:
             faults.append(Fault(0, 'file', 'requests', count, LINES))
         faults.sort(key=lambda fault: fault.row)
         ordered = sorted(runs, key=lambda run: run.first)
-        return {**known, 'faults': [told(fault) for fault in faults[:MOST_FAULTS]],
+        return {**known, 'faults': [render_fault(fault) for fault in faults[:MOST_FAULTS]],
                 'more': max(0, len(faults) - MOST_FAULTS), 'requests': count,
                 'rows': [self.row(line, plan, ordered, names.get(line.row))
                          for line in table.lines]}
@@ -218,7 +219,7 @@ def periods(runs: Sequence[Run], spans: Sequence[Span]) -> Iterator[tuple[str, s
         yield from ((f'{run.month}-01', run.last_day) for run in reach if first <= run.last)
 
 
-def told(fault: Fault) -> Row:
+def render_fault(fault: Fault) -> Row:
     """A fault as it is shown."""
     return {'row': fault.row, 'field': fault.field, 'kind': fault.kind, 'there': fault.there,
             'wanted': fault.wanted, 'other': fault.other, 'value': fault.value}
@@ -226,7 +227,7 @@ def told(fault: Fault) -> Row:
 
 # -------------------------------------------------------------------- what was sent
 
-def sent(database: sqlite3.Connection, viewer: Viewer, digest: str) -> list[Row]:
+def fetch_outcomes(database: sqlite3.Connection, viewer: Viewer, digest: str) -> list[Row]:
     """What came of a table that was sent: its rows, each with the numbers of its cancellations."""
     begin = prefix_of(digest)
     whose, values = ALL if viewer.sees_all else ('act.caller = ?', (viewer.caller,))

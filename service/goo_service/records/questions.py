@@ -13,7 +13,7 @@ from dataclasses import dataclass
 from typing import Any
 
 from goo_service.records.book import KINDS
-from goo_service.records.schema import folded
+from goo_service.records.schema import fold_text
 from goo_service.rules.commands import ISSUER
 
 Row = dict[str, Any]
@@ -206,16 +206,16 @@ def text_of(given: Given) -> str:
     text = given.get('q') or ''
     if len(text) > MOST_LETTERS:
         raise BadQuestion(f'q is of {len(text)} letters, and of {MOST_LETTERS} at most')
-    return folded(text)
+    return fold_text(text)
 
 
 def threes_in(text: str) -> str:
     """The threes of letters that all of a text is made of, in the language of FTS5."""
     places = {*range(0, len(text) - 2, 3), len(text) - 3}
-    return ' '.join(quoted(text[at:at + 3]) for at in sorted(places))
+    return ' '.join(quote(text[at:at + 3]) for at in sorted(places))
 
 
-def quoted(three: str) -> str:
+def quote(three: str) -> str:
     """Three letters in the language of FTS5, whatever they are."""
     return '"{}"'.format(three.replace('"', '""'))
 
@@ -247,7 +247,8 @@ def limit_of(given: Given) -> int:
     return min(number_or(usual, given, 'limit', least=1), most)
 
 
-def paged(given: Given, database: sqlite3.Connection, text: str, values: Iterable[Any]) -> Listed:
+def fetch_page(given: Given, database: sqlite3.Connection, text: str,
+               values: Iterable[Any]) -> Listed:
     """A page of a query."""
     limit, offset = limit_of(given), number_or(0, given, 'offset')
     found = read(database, f'{text} LIMIT ? OFFSET ?', (*values, limit, offset))

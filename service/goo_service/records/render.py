@@ -23,7 +23,7 @@ PROCESSOR = 100
 LENGTH = struct.Struct('>I')
 
 
-def bound() -> None:
+def set_limits() -> None:
     """No more than this, whatever the document has in it; no file is written."""
     for what, most in ((resource.RLIMIT_AS, MEMORY), (resource.RLIMIT_CPU, PROCESSOR),
                        (resource.RLIMIT_FSIZE, 0), (resource.RLIMIT_NOFILE, 128),
@@ -31,24 +31,24 @@ def bound() -> None:
         resource.setrlimit(what, (most, most))
 
 
-def refused(url: str, *_: Any, **__: Any) -> NoReturn:
+def refuse(url: str, *_: Any, **__: Any) -> NoReturn:
     """Takes the place of what would fetch an address."""
     raise ValueError(f'nothing is fetched: {url[:60]}')
 
 
-def rendered(of: Any) -> bytes:
+def render(of: Any) -> bytes:
     from weasyprint import HTML  # type: ignore[import]
-    made = HTML(string=page(of), base_url=None, url_fetcher=refused).write_pdf()
+    made = HTML(string=page(of), base_url=None, url_fetcher=refuse).write_pdf()
     assert isinstance(made, bytes)
     return made
 
 
 def main() -> int:
     tempfile.tempdir = os.environ.get('TMPDIR', '/tmp')     # it would be tried by a file
-    bound()
+    set_limits()
     logging.disable(logging.CRITICAL)
     for line in sys.stdin.buffer:
-        made = rendered(json.loads(line))
+        made = render(json.loads(line))
         sys.stdout.buffer.write(LENGTH.pack(len(made)) + made)
         sys.stdout.buffer.flush()
     return 0

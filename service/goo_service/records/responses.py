@@ -10,7 +10,7 @@ from flask import Response
 
 from goo_service.records.files import BYTE_ORDER
 from goo_service.records.files import csv_of
-from goo_service.records.files import presented
+from goo_service.records.files import render_value
 from goo_service.records.parties import TooMany
 from goo_service.records.pdf import NotInstalled
 from goo_service.records.pdf import NotRendered
@@ -38,11 +38,11 @@ Answer = Response | Listed | Row
 
 def reply(status: int, value: object, **fields: str) -> Response:
     """An answer in JSON."""
-    text = json.dumps(presented(value), ensure_ascii=False, separators=(',', ':'))
+    text = json.dumps(render_value(value), ensure_ascii=False, separators=(',', ':'))
     return Response(f'{text}\n', status, {**HEADERS, **fields}, content_type='application/json')
 
 
-def written_file(of: Listed, about: Row) -> tuple[str, str, Iterator[bytes]]:
+def render_file(of: Listed, about: Row) -> tuple[str, str, Iterator[bytes]]:
     """The type of a file, the end of its name, and its parts."""
     if about['format'] == 'xlsx':
         return XLSX, 'xlsx', xlsx_of(of.columns, of.rows, about, FILES['xlsx'])
@@ -72,7 +72,7 @@ class Few:
 def file_response(of: Listed, about: Row, files: Few) -> Response:
     """A list as a file, written as it is read. Where the time ends within, so does the
     connection, and the client has no whole answer."""
-    kind, ending, written = written_file(of, about)
+    kind, ending, written = render_file(of, about)
     parts = files.parts(written)
     first = next(parts)         # what fails at once is told by its status
     name = f'attachment; filename="{about["list"]}.{ending}"'

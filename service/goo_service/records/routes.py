@@ -36,7 +36,7 @@ from goo_service.records.questions import is_set
 from goo_service.records.responses import Answer
 from goo_service.records.responses import Few
 from goo_service.records.responses import HEADERS
-from goo_service.records.seal import sealed
+from goo_service.records.seal import add_seal
 
 ListOf = Callable[[sqlite3.Connection, Viewer, Given], Listed]
 OneOf = Callable[[sqlite3.Connection, Viewer, int], Answer]
@@ -57,9 +57,9 @@ class Routes:
             'acts': acts_of, 'holdings': certificates.holdings,
             'deadlines': certificates.deadlines, 'choice': certificates.choice,
             'holders': lists.holders, 'withdrawals': lists.withdrawals,
-            'statistics': lists.statistics, 'undeclared': doubts.undeclared,
+            'statistics': lists.statistics, 'undeclared': doubts.undeclared_months,
             'directory': self.parties.directory,
-            **{name: functools.partial(lists.listed, name) for name in lists.LISTS},
+            **{name: functools.partial(lists.fetch_list, name) for name in lists.LISTS},
             'notices': self.notices, 'attachments': self.attachments}
         self.ones: dict[str, OneOf] = {
             'acts': acts.act, 'certificates': certificates.certificate,
@@ -85,18 +85,18 @@ class Routes:
         """Notices with what became of them, as far as the exchange wrote it; null where it did
         not."""
         fates = fates_in(self.exchange)
-        found = lists.listed('notices', database, viewer, given)
+        found = lists.fetch_list('notices', database, viewer, given)
         rows = ({**row, 'fate': fates.get((row['sent'], row['peer'], row['number']))}
                 for row in found.rows)
         return Listed((*found.columns, 'fate'), rows, found.beside)
 
     def cancellation(self, database: sqlite3.Connection, viewer: Viewer, number: int) -> Row:
-        return documents.shown_document(database, viewer, number, self.maker.keys[0])
+        return documents.render_document(database, viewer, number, self.maker.keys[0])
 
     def documents(self, database: sqlite3.Connection, viewer: Viewer,
                   given: Given) -> Row | Response:
         """A document, as data or as a PDF. While a PDF is rendered, the book is not read."""
-        made = documents.shown_documents(database, viewer, given, self.maker)
+        made = documents.render_documents(database, viewer, given, self.maker)
         if given.get('format') != 'pdf':
             return made
         database.close()
@@ -110,7 +110,7 @@ class Routes:
             made, = self.files.parts(pdfs([paper]))
         name = f'document-{paper["number"].replace(",", "_")[:60]}.pdf'
         fields = {**HEADERS, 'Content-Disposition': f'attachment; filename="{name}"'}
-        return Response(sealed(made, paper['number'], paper['code'], key), 200, fields,
+        return Response(add_seal(made, paper['number'], paper['code'], key), 200, fields,
                         content_type='application/pdf')
 
     def status(self, _: sqlite3.Connection, viewer: Viewer, __: Given) -> Row:
@@ -142,7 +142,7 @@ class Routes:
         return Response(whole, 200, fields, content_type='application/zip')
 
     def attachments(self, _: sqlite3.Connection, viewer: Viewer, given: Given) -> Listed:
-        return self.kept.listed(viewer, given)
+        return self.kept.fetch_page(viewer, given)
 
     def attachment(self, _: sqlite3.Connection, viewer: Viewer, number: int) -> Response:
         """A document that was brought over. A browser saves it, and never opens it here."""

@@ -110,7 +110,7 @@ CANCELLATION = ', '.join(f'cancellation.{name}' for name in (
 """The columns of a cancellation that are shown."""
 
 
-def searched(key: str) -> str:
+def search_text(key: str) -> str:
     """The text in which an act is looked for, as SQL, with this as its key.
 
     Who may not see the key does not find the act by it.
@@ -124,7 +124,7 @@ NAMES = {'holder': "holder.folded || ' ' || lower(holder.code)",
          'device': "device.folded || ' ' || device.gsrn", 'cancellation': 'cancellation.folded'}
 """The text in which a row of a table is looked for, folded, as SQL."""
 INDEXED = (f'''INSERT INTO word (rowid, text)
-    SELECT id, FOLD({searched('act.key')} || char(10) || {searched('NULL')}) || '  '
+    SELECT id, FOLD({search_text('act.key')} || char(10) || {search_text('NULL')}) || '  '
     FROM act WHERE id > ? ORDER BY id''',
            *(f'INSERT INTO name (rowid, text) SELECT act, {text} FROM {table} WHERE act > ? '
              'ORDER BY act' for table, text in NAMES.items()))
@@ -137,7 +137,7 @@ class Mismatch(Exception):
     """The log is not what the rules or the book say. The text names the entry."""
 
 
-def folded(text: str) -> str:
+def fold_text(text: str) -> str:
     """A text as it is looked for, without a NUL, to which FTS5 would read."""
     return fold(text.replace('\0', '\ufffd'))
 
@@ -149,7 +149,7 @@ def connect(path: Path, read_only: bool = False,
     database = sqlite3.connect(f'{path.resolve().as_uri()}?mode={mode}', uri=True,
                                isolation_level=None, timeout=30, factory=factory)
     database.row_factory = sqlite3.Row
-    database.create_function('FOLD', 1, folded, deterministic=True)
+    database.create_function('FOLD', 1, fold_text, deterministic=True)
     return database
 
 

@@ -47,7 +47,7 @@ class Seal:
         return is_signed(self.text, self.signature, public)
 
 
-def sealed(pdf: bytes, number: str, code: str, key: Key) -> bytes:
+def add_seal(pdf: bytes, number: str, code: str, key: Key) -> bytes:
     """A PDF with its seal."""
     body = pdf.rstrip(b'\n')
     digest = hashlib.sha256(body).hexdigest()

@@ -162,16 +162,16 @@ class Service:
         found = list(answer.rows)
         return reply(200, {'stands': standing(database), 'items': found, **answer.beside(found)})
 
-    def named(self, name: str) -> Response:
+    def answer_list(self, name: str) -> Response:
         """The answer of a list, or of another route without a number."""
         if name == 'acts' and request.args.get('wait'):
-            return self.followed()
+            return self.answer_feed()
         answer = self.routes.lists.get(name) or self.routes.others.get(name)
         if answer is None:
             return reply(404, {'error': f'there is no list {name}'})
         return self.for_viewer(name, answer)
 
-    def followed(self) -> Response:
+    def answer_feed(self) -> Response:
         """Acts after an entry. Where there is none, the answer is held back for a while."""
         try:
             seconds = feed.seconds_of(parameters_of('acts', request.args))
@@ -181,17 +181,17 @@ class Service:
         user = request.headers.get('GOO-User') or request.headers.get('GOO-Caller') or ''
         try:
             with self.waiting.one(user):
-                return self.held_back(until)
+                return self.hold_back(until)
         except feed.TooMany:
             text = f'{user} waits already, or {self.limits.waiting} others do: ask again later'
             return reply(503, {'error': text}, **BUSY)
 
-    def held_back(self, until: float) -> Response:
+    def hold_back(self, until: float) -> Response:
         """The answer, once it has an act or the time is over."""
         while True:
             seen = self.entry()
             response = self.for_viewer('acts', acts_of)
-            if not says_nothing(response) or not feed.moved_on(self.entry, seen, until):
+            if not says_nothing(response) or not feed.wait_for_entry(self.entry, seen, until):
                 return response
             response.close()
 
@@ -213,10 +213,10 @@ class Service:
         return self.for_viewer(name, lambda database, viewer, given:
                                self.routes.posted[name](database, viewer, given, body))
 
-    def verified(self) -> Response:
+    def verify(self) -> Response:
         """The public check: whether number and code belong together."""
         def answer(database: sqlite3.Connection, given: Given) -> Response:
-            found = documents.verified(database, given, self.routes.maker)
+            found = documents.verify_document(database, given, self.routes.maker)
             if found is None:
                 text = ('this file is not as the registry sealed it' if given.get('seal') else
                         'number and code do not belong together')
@@ -265,7 +265,7 @@ def application(folder: Path | None = None, exchange: Path | None = None,
 
     @app.get('/records/v1/<name>')
     def a_list(name: str) -> Response:
-        return service.named(name)
+        return service.answer_list(name)
 
     @app.get('/records/v1/<name>/<int:number>')
     def one(name: str, number: int) -> Response:
@@ -281,7 +281,7 @@ def application(folder: Path | None = None, exchange: Path | None = None,
         return service.table(name)
 
     app.get('/records/v1/openapi.yaml')(description)
-    app.get('/verify')(service.verified)
+    app.get('/verify')(service.verify)
     app.get('/verify/key')(service.public_key)
     app.register_error_handler(404, missing)
     app.register_error_handler(405, not_allowed)

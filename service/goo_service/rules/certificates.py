@@ -77,12 +77,12 @@ class Certificates:
             self.counts[self.runs[first][2]] += last - first + 1
         return sum(last - first + 1 for first, last, *_ in runs)
 
-    def joined(self) -> list[Run]:
+    def longest_runs(self) -> list[Run]:
         """The longest runs of one lot and one place."""
-        return cast(list[Run], joined((first, *self.runs[first]) for first in self.firsts))
+        return cast(list[Run], join_runs((first, *self.runs[first]) for first in self.firsts))
 
 
-def joined(runs: Iterable[tuple[Any, ...]]) -> list[tuple[Any, ...]]:
+def join_runs(runs: Iterable[tuple[Any, ...]]) -> list[tuple[Any, ...]]:
     """Runs in rising order, with those made one that follow each other and say the same."""
     longest: list[tuple[Any, ...]] = []
     for first, last, *rest in runs:

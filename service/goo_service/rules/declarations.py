@@ -78,10 +78,10 @@ def correct(state: State, caller: str, of: Command) -> Answer:
     must(last - first + 1 == excess, 'WrongCount')
     act = 0
     if excess:
-        must_none(least(number for number, _, lot, _ in state.known(first, last)
+        must_none(least(number for number, _, lot, _ in state.known_runs(first, last)
                         if (lot.origin, lot.device) != (state.code, of['device'])),
                   'OtherDevice')
-        act = withdraw_runs(state, state.held(first, last), first, last, of['reason'])
+        act = withdraw_runs(state, state.held_runs(first, last), first, last, of['reason'])
     state.left[period] -= less
     state.corrections.append((*period, less, act))
     device.update(carry=carry, less=device['less'] + less,

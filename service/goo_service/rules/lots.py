@@ -45,7 +45,7 @@ class Lot(NamedTuple):
         return is_past(self.expires_on, today)
 
     @staticmethod
-    def stated(members: dict[str, Any]) -> 'Lot':
+    def parse(members: dict[str, Any]) -> 'Lot':
         """The lot that the part of a notice states. Of equal texts there is one in memory."""
         whole: dict[str, Any] = {'carrier': ELECTRICITY, **members}
         shared: dict[str, Any] = {name: sys.intern(value) if type(value) is str else value

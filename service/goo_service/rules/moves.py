@@ -25,7 +25,7 @@ def cancel(state: State, caller: str, of: Command) -> Answer:
     must(caller == state.holder_of(of['account']), 'NotAllowed')
     must(of['use_first'] <= of['use_last'], 'UsePeriod')
     first, last = int(of['first']), int(of['last'])
-    runs = state.held(first, last, of['account'])
+    runs = state.held_runs(first, last, of['account'])
     act = state.number('cancellation')
     state.cancellations[act] = (of['account'], first, last, of['beneficiary'], of['use_first'],
                                 of['use_last'], state.today)
@@ -35,7 +35,7 @@ def cancel(state: State, caller: str, of: Command) -> Answer:
 def withdraw(state: State, caller: str, of: Command) -> Answer:
     must(caller == ISSUER, 'NotAllowed')
     first, last = int(of['first']), int(of['last'])
-    act = withdraw_runs(state, state.held(first, last), first, last, of['reason'])
+    act = withdraw_runs(state, state.held_runs(first, last), first, last, of['reason'])
     return 6, act, last - first + 1, 0
 
 

@@ -6,7 +6,7 @@ from typing import Any
 from goo_service.rules.certificates import EXPORTED
 from goo_service.rules.certificates import Run
 from goo_service.rules.certificates import absent
-from goo_service.rules.certificates import joined
+from goo_service.rules.certificates import join_runs
 from goo_service.rules.commands import Command
 from goo_service.rules.commands import ISSUER
 from goo_service.rules.commands import compact
@@ -33,7 +33,7 @@ def export(state: State, caller: str, of: Command) -> Answer:
     must(caller == state.holder_of(of['giver']), 'NotAllowed')
     must(of['peer'] in state.peers, 'UnknownPeer')
     runs = state.tradable(int(of['first']), int(of['last']), of['giver'])
-    parts = joined(run[:3] for run in runs)
+    parts = join_runs(run[:3] for run in runs)
     must(len(parts) <= MOST_PARTS, 'TooManyParts')
     act = state.number('notice')
     text = notice_text(state.code, of['peer'], act, of['account'], parts)
@@ -61,7 +61,7 @@ def import_notice(state: State, caller: str, of: Command) -> Answer:
 
 def arriving_parts(state: State, parts: list[dict[str, Any]]) -> list[tuple[int, int, Lot]]:
     """The range and the lot of each part of a notice, where all may come in."""
-    arriving = [(int(part['first']), int(part['last']), Lot.stated(part['lot']))
+    arriving = [(int(part['first']), int(part['last']), Lot.parse(part['lot']))
                 for part in parts]
     met = [(*each, state.certificates.within(*each[:2])) for each in arriving]
     must(not any(lot.is_over(state.today) for _, _, lot in arriving), 'Stale')

@@ -54,22 +54,22 @@ class State:
         must(account in self.accounts, 'UnknownAccount')
         must(not self.accounts[account][1], 'AccountClosed')
 
-    def known(self, first: int, last: int) -> list[Run]:
+    def known_runs(self, first: int, last: int) -> list[Run]:
         """The runs of a range whose certificates are all known."""
         runs = self.certificates.within(first, last)
         must_none(least(absent(runs, first, last)), 'UnknownNumber')
         return runs
 
-    def held(self, first: int, last: int, by: int | None = None) -> list[Run]:
+    def held_runs(self, first: int, last: int, by: int | None = None) -> list[Run]:
         """The same where all are held by this account, or by any."""
-        runs = self.known(first, last)
+        runs = self.known_runs(first, last)
         must_none(least(number for number, _, _, place in runs
                         if place.kind != HELD or by not in (None, place.account)), 'NotHeld')
         return runs
 
     def tradable(self, first: int, last: int, by: int) -> list[Run]:
         """The same where each may still be traded."""
-        runs = self.held(first, last, by)
+        runs = self.held_runs(first, last, by)
         must_none(least(number for number, _, lot, _ in runs if lot.is_closed(self.today)),
                   'TradeClosed')
         return runs

@@ -61,7 +61,7 @@ def is_own_file(path: pathlib.Path) -> bool:
     return path.is_file() and not path.is_symlink()
 
 
-def found_below(root: pathlib.Path, of_package: frozenset[pathlib.Path]) -> Found:
+def find_below(root: pathlib.Path, of_package: frozenset[pathlib.Path]) -> Found:
     """What was installed by hand below a root folder, where the package has these files."""
     def below(path: pathlib.Path) -> pathlib.Path:
         return root / path.relative_to('/')
@@ -104,7 +104,7 @@ def set_aside() -> bool:
 
     The registry is stopped then.
     """
-    found = found_below(pathlib.Path('/'), files_of_package())
+    found = find_below(pathlib.Path('/'), files_of_package())
     if not found.files:
         return False
     verify(found)

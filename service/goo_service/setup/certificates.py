@@ -28,7 +28,7 @@ def peers_conf(etc: pathlib.Path) -> configparser.ConfigParser:
     return conf
 
 
-def held(etc: pathlib.Path) -> Iterator[Held]:
+def list_certificates(etc: pathlib.Path) -> Iterator[Held]:
     """The files of certificates that this host needs."""
     yield Held(etc / 'tls/cert.pem',
                f'put a new one into {etc}/tls; nginx -t && systemctl reload nginx')

@@ -261,7 +261,7 @@ def place_etcd() -> None:
     run('systemctl', 'start', '--no-block', 'goo-etcd')
 
 
-def found_log(file: str) -> None:
+def begin_log(file: str) -> None:
     """The log in etcd goes on after the entry at which the three hosts were made.
 
     Whoever joins first begins it.

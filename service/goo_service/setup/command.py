@@ -7,7 +7,8 @@ usage: goo-setup [--code C] [--name HOST] [--date DAY] [--next-serial N]
                  [--alone | --hosts ADDRESS,ADDRESS,ADDRESS [--balancer ADDRESS] | --join FILE]
        goo-setup user add NAME CALLER [ROLE] [--password-file FILE]
                  | remove NAME | password NAME [--password-file FILE]
-       goo-setup people on [--officer MAIL] [--language en|de] [--programs-until DAY] | off
+       goo-setup people on [--officer MAIL] [--language en|de] [--programs-until DAY]
+                 | off | provider
        goo-setup peer add CODE URL USER PUBLIC_KEY [--password-file FILE] | remove CODE
        goo-setup status | doctor | renew | upgraded
 
@@ -27,6 +28,7 @@ becomes the first of three in the same way.
 `people on` has goo-people sign users in: by a page with a second factor, and by tokens. The users
 of today's files are taken over; --officer invites an officer by a link that is printed. Passwords
 of programs are taken until DAY, in 30 days unless told. `people off` goes back to the files.
+`people provider` has users sign in by the provider that /etc/goo/people-oidc.conf names.
 
 `status` tells what runs, which version, at which entry, and the last copy. `doctor` tells what is
 wrong, what to do about it, and the row of /usr/share/doc/goo/WRONG.md that says more. `renew`
@@ -105,7 +107,7 @@ def begin(given: Beginning) -> int:
         running.place_log()
     elif given.join:
         cluster.place_etcd()
-        cluster.found_log(given.join)
+        cluster.begin_log(given.join)
     if registry.place_directory(given) and given.directory:
         run('systemctl', 'try-restart', 'goo-records-web')
     running.start_units(are_timers=False)
@@ -157,7 +159,7 @@ def add_people(kinds: 'argparse._SubParsersAction[argparse.ArgumentParser]') -> 
     on.add_argument('--language', choices=('en', 'de'), default='en', help="of the officer's mails")
     on.add_argument('--programs-until', metavar='DAY',
                     help='until when passwords of programs are taken; 30 days unless told')
-    for one in (on, commands.add_parser('off')):
+    for one in (on, commands.add_parser('off'), commands.add_parser('provider')):
         one.set_defaults(work=lambda given: people_way.people(choices.people_work(given)))
 
 

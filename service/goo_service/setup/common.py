@@ -136,7 +136,7 @@ def report(what: object, was_done: bool) -> bool:
 def write(path: pathlib.Path, text: str, mode: int = 0o644, owner: str = 'root',
           group: str = 'root') -> None:
     """The file is there whole or not at all, and nobody else reads it meanwhile."""
-    write_whole(path, text, mode, Owner.named(owner, group))
+    write_whole(path, text, mode, Owner.of_names(owner, group))
 
 
 def text_of(path: pathlib.Path) -> str:

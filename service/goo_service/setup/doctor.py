@@ -273,7 +273,7 @@ def of_exchange() -> Iterator[Finding]:
 # -------------------------------------------------------------------- keys, users, nginx
 
 def of_certificates() -> Iterator[Finding]:
-    for held in certificates.held(ETC):
+    for held in certificates.list_certificates(ETC):
         left = certificates.days_left(held.path)
         if left is None:
             yield Finding(f'{held.path} cannot be read', Row.CERTIFICATE, held.remedy)

@@ -3,14 +3,17 @@
 /etc/goo/people.conf says it, for nginx: it takes in a file of the package, so that a new package
 brings a new one. `goo-setup people on` begins the file of people with the users of today's files,
 starts its services, and has nginx ask them. `goo-setup people off` has nginx ask the files again,
-which have stayed as they were.
+which have stayed as they were. `goo-setup people provider` has goo-people-web reach the provider of
+OpenID Connect that /etc/goo/people-oidc.conf names; without that file it has no network.
 """
 import pathlib
 
+from goo_service.people import oidc_settings
 from goo_service.setup.choices import PeopleWork
 from goo_service.setup.common import ETC
 from goo_service.setup.common import OF_PEOPLE
 from goo_service.setup.common import SHARE
+from goo_service.setup.common import SYSTEMD
 from goo_service.setup.common import WAY
 from goo_service.setup.common import Refused
 from goo_service.setup.common import make_folder
@@ -24,6 +27,8 @@ from goo_service.setup.common import write
 BY_FILES, BY_PEOPLE = SHARE / 'nginx/people-file.conf', SHARE / 'nginx/people.conf'
 FOLDER = pathlib.Path('/var/lib/goo-people')
 COMMAND = '/usr/bin/goo-people'
+WEB = 'goo-people-web.service'
+TO_PROVIDER = SYSTEMD / f'{WEB}.d/oidc.conf'
 
 
 def place_way() -> bool:
@@ -36,7 +41,8 @@ def place_way() -> bool:
 
 def people(work: PeopleWork) -> int:
     """Switches the way. Each step may be done again, and the switch itself is the last one."""
-    return turn_on(work) if work.do == 'on' else turn_off()
+    works = {'on': lambda: turn_on(work), 'off': turn_off, 'provider': reach_provider}
+    return works[work.do]()
 
 
 def turn_on(work: PeopleWork) -> int:
@@ -66,6 +72,25 @@ def turn_off() -> int:
     for unit in units_there():
         run('systemctl', 'disable', '--now', unit, unit.replace('.socket', '.service'))
     print(f'users sign in by the files again; {FOLDER} stays')
+    return 0
+
+
+def reach_provider() -> int:
+    """Gives goo-people-web the network that a sign-in by a provider takes, or takes it away."""
+    path = oidc_settings.FILE
+    try:
+        settings = oidc_settings.read_settings(path)
+    except oidc_settings.Fault as fault:
+        raise Refused(str(fault)) from fault
+    if settings:
+        write(TO_PROVIDER, text_of(SHARE / 'drop-ins/goo-people-web-oidc.conf'))
+        print(f'users sign in by {settings.issuer}; at the provider the way back is '
+              f'{settings.site}/people/v1/oidc/return')
+    else:
+        TO_PROVIDER.unlink(missing_ok=True)
+        print(f'there is no {path}: nobody signs in by a provider')
+    run('systemctl', 'daemon-reload')
+    run('systemctl', 'try-restart', WEB)
     return 0
 
 

@@ -133,7 +133,7 @@ class Certificate:
     key: str | None = None
 
 
-def chosen_certificate(given: Beginning) -> Certificate:
+def choose_certificate(given: Beginning) -> Certificate:
     """What was given, or is typed at a terminal."""
     if given.certificate or given.self_signed:
         return Certificate(given.certificate, given.key)
@@ -159,7 +159,7 @@ def place_certificate(given: Beginning, name: str) -> bool:
     """The certificate and its key: those that were given, or one that this host signs itself."""
     if CHAIN.exists() and KEY.exists():
         return report(CHAIN, False)
-    chosen = chosen_certificate(given)
+    chosen = choose_certificate(given)
     if chosen.chain:
         copy_certificate(chosen.chain, chosen.key or '')
         return report(CHAIN, True)

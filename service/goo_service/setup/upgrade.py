@@ -123,7 +123,7 @@ def begin_version(has_log: bool, waits: bool) -> None:
 
     A registry that was not well before need not be now: then it is not waited for.
     """
-    with stopped():
+    with stop_services():
         check_tables()
         if has_log:
             move_log()
@@ -155,7 +155,7 @@ def running() -> list[str]:
 
 
 @contextlib.contextmanager
-def stopped() -> Iterator[None]:
+def stop_services() -> Iterator[None]:
     """The registry and its log do not run meanwhile. What ran runs again, however this ends."""
     ran = running()
     RAN.write_text(' '.join(ran) + '\n', encoding='ascii')
@@ -224,7 +224,7 @@ def go_back(has_log: bool, waits: bool) -> bool:
         os.link(kept, path)
     part.replace(PROGRAM)
     try:
-        with stopped():
+        with stop_services():
             if has_log:
                 move_log()
         if waits:

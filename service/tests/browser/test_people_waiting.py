@@ -153,7 +153,9 @@ def test_four_eyes_with_two_users(house: House, signed: Signed, second: Signed) 
     signed.page.go('waiting', OPEN)
     assert 'You have asked for it' in signed.page.text(OPEN)
     assert signed.page.texts(f'{OPEN} button') == ['Take it back']
-    other = second.sign_in('alma', 'waiting', OPEN)
+    other = second.sign_in('alma', 'start', f'.part {KEPT}')
+    other.see(f'.part {KEPT}', '1 request waits until you confirm or refuse it')
+    other.click(f'.part {KEPT} a', 'Which ones')
     shown = other.text(OPEN)
     assert 'Transfer certificates' in shown and '(150)' in shown and 'anna' in shown
     other.look('people-waiting', dark=True)

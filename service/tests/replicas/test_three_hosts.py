@@ -12,6 +12,8 @@ from collections.abc import Iterator
 
 import client
 import pytest
+from goo_service.log import entries
+from goo_service.log import reader
 from mutations import gsrn
 from replicas.clients import Clients
 from replicas.clients import HEAD
@@ -70,6 +72,25 @@ def begin_from(host: Host, other: Host) -> None:
         shutil.copytree(other.disk / name, host.disk / name)
     for one in (other, host):
         one.release(*PROGRAMS)
+
+
+# -------------------------------------------------------------------- who asked, and who confirmed
+
+def test_each_host_has_the_way_of_signing_in_and_the_second_user(cluster: Cluster) -> None:
+    """Of what any host took, in the archives of all."""
+    body, told = b'{"command":"open_holder","key":"way-%d","holder":"W%d","name":"W"}', []
+    for number, host in enumerate(cluster.hosts):
+        told.append(ask(host, 'POST', '/v1/requests', 'ISSUER', body % (number, number), 30,
+                        user='anna', way=f'token nightly{number}', confirmed='ben'))
+    assert [one.status for one in told] == [200] * 3, told
+    cluster.even(60)
+    key = entries.read_key(cluster.folder / 'mac.key')
+    for host in cluster.hosts:
+        records = reader.read_archive(host.state / 'archive', 0, key)
+        named = [(one.entry.n, one.entry.user, one.entry.way, one.entry.confirmed)
+                 for one in records if one.entry.user == 'anna']
+        assert named == [(one.entry, 'anna', f'token nightly{number}', 'ben')
+                         for number, one in enumerate(told)], host.name
 
 
 # -------------------------------------------------------------------- crashes, a weak goo
