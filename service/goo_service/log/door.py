@@ -234,11 +234,10 @@ class Connection(asyncio.Protocol):
             self.call.gone = True
 
     def answer(self, answer: Answer, fields: Fields, stays: bool = False) -> None:
-        """Sends the answer with further fields, and closes once all of it is sent."""
+        """Sends the answer with further fields, and closes once all of it is sent. Where the client
+        has gone the transport drops it."""
         self.forget()
         self.answered, self.until = True, math.inf if stays else time.monotonic() + SEND
-        if self.transport.is_closing():
-            return                              # the client has gone
         has_body = not (self.call and self.call.method == 'HEAD')
         self.transport.write(head_text(answer, fields, stays) + (answer.body if has_body else b''))
         if not stays:
