@@ -146,7 +146,7 @@ def test_the_auditor_verifies_it_without_the_registry() -> None:
     assert 'Signature Verified Successfully' in printed, printed
     said = (FOLDER / 'protocol.json').read_text(encoding='utf-8')
     hashes = re.findall('(?m)^([0-9a-f]{64})  ', printed)
-    assert len(hashes) == 12 and all(found in said for found in hashes), printed
+    assert len(hashes) == 14 and all(found in said for found in hashes), printed
     assert 'all files are those' in play('What the auditor reads', 1, PUBLISHED=public)
     other = shell('openssl genpkey -algorithm ed25519 | openssl pkey -pubout | sed -n 2p').stdout
     done = shell(script('What the auditor reads', 0, PUBLISHED=other.strip()))
